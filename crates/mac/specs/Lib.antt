@@ -1,0 +1,4 @@
+pub mod Refusals
+pub mod Face
+pub mod Promises
+pub mod Stream

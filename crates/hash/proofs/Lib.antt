@@ -5,3 +5,5 @@ pub mod Message
 pub mod Gather
 pub mod Close
 pub mod Join
+pub mod Sums
+pub mod Window

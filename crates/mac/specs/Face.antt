@@ -1,5 +1,5 @@
 -- What an algorithm says of itself. Assumes nothing.
-use Prim.Native.Nat.{ℕ, _≤_}
+use Prim.Native.Nat.{ℕ, _+_, _^_, _≤_, _<_}
 use mathlib.Core.List.{List}
 use mathlib.Core.Path.{_≡_}
 use mathlib.Core.Bool.{Bool, true, false, _&&_}
@@ -44,6 +44,8 @@ pub record Limits (f : Face) : Type 0 where
   pub some : 1 ≤ f .row .tag .least
   pub tag : f .row .tag .most ≤ 32
   pub message : f .row .message ≤ 1048576
+  -- the rounds of a key and a message fit the meter
+  pub rounds : (n : ℕ) → n ≤ f .row .message → f .setup + f .whole n < 2 ^ 64
 
 -- a record of zeros
 abbrev pub blank : KeyRecord

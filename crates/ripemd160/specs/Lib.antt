@@ -1,0 +1,4 @@
+pub mod Orders
+pub mod Round
+pub mod Means
+pub mod Vectors

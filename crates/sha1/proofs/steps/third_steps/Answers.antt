@@ -1,0 +1,6 @@
+use Rattle.hash.specs.Rounds.{group}
+use Rattle.sha1.proofs.steps.third_steps.Needs as need
+
+pub returns : need.returns
+unfolding group
+returns c = cc

@@ -82,14 +82,22 @@ fn block_at(bytes: &[u8], at: usize) -> &[u8; 64]
     <&[u8; 64]>::try_from(&bytes[at..at + 64]).unwrap()
 }
 
-// The rounds of the whole blocks of `bytes`.
-pub fn chain_blocks<H: Hash>(hash: &mut H, chain: &mut [u32; 8], added: &[u32; 8], bytes: &[u8])
+// One round for each whole block of `bytes`, in their order.
+fn fold_blocks<H: Hash>(hash: &mut H, chain: &mut [u32; 8], added: &[u32; 8], bytes: &[u8])
     ensures chain { λ _. ⌜ now (chain .exit) ≡ chained meaning (now (chain .entry)) (now (added .entry)) (now (bytes .entry)) (length (now (bytes .entry)) / 64) ⌝ }
     ensures meter { λ _. ⌜ now (hash .exit) ≡ after next (now (hash .entry)) (length (now (bytes .entry)) / 64) ⌝ }
 {
     for i in 0..bytes.len() / 64 {
         hash.round(chain, added, block_at(bytes, 64 * i));
     }
+}
+
+// The rounds of the whole blocks of `bytes`.
+pub fn chain_blocks<H: Hash>(hash: &mut H, chain: &mut [u32; 8], added: &[u32; 8], bytes: &[u8])
+    ensures chain { λ _. ⌜ now (chain .exit) ≡ chained meaning (now (chain .entry)) (now (added .entry)) (now (bytes .entry)) (length (now (bytes .entry)) / 64) ⌝ }
+    ensures meter { λ _. ⌜ now (hash .exit) ≡ after next (now (hash .entry)) (length (now (bytes .entry)) / 64) ⌝ }
+{
+    fold_blocks(hash, chain, added, bytes);
 }
 
 fn length_bytes(order: ByteOrder, bits: u64) -> [u8; 8]
@@ -272,8 +280,7 @@ fn word_from(order: ByteOrder, bytes: [u8; 4]) -> u32
     }
 }
 
-// The sixteen words of a block.
-pub fn block_words(order: ByteOrder, block: &[u8; 64]) -> [u32; 16]
+fn load_words(order: ByteOrder, block: &[u8; 64]) -> [u32; 16]
     ensures { λ r. ⌜ r ≡ words order (now (block .entry)) 16 ⌝ }
 {
     let mut xs = [0; 16];
@@ -289,4 +296,11 @@ pub fn block_words(order: ByteOrder, block: &[u8; 64]) -> [u32; 16]
         );
     }
     xs
+}
+
+// The sixteen words of a block.
+pub fn block_words(order: ByteOrder, block: &[u8; 64]) -> [u32; 16]
+    ensures { λ r. ⌜ r ≡ words order (now (block .entry)) 16 ⌝ }
+{
+    load_words(order, block)
 }

@@ -158,8 +158,8 @@ pub trait Algorithm<H: Hash> {
     }
 }
 
-// Joins a piece to a run, under the added words.
-pub fn feed<H: Hash>(
+// Asks whether the piece may be joined, and joins it.
+fn feed_run<H: Hash>(
     hash: &mut H,
     run: &mut Run,
     added: &[u32; 8],
@@ -182,6 +182,19 @@ pub fn feed<H: Hash>(
     absorb(hash, &mut run.chain, added, &mut run.held, fed, piece);
     run.fed = (fed + piece.len()) as u32;
     Ok(())
+}
+
+// Joins a piece to a run, under the added words.
+pub fn feed<H: Hash>(
+    hash: &mut H,
+    run: &mut Run,
+    added: &[u32; 8],
+    most: u32,
+    piece: &[u8],
+) -> Result<(), Refusal>
+    ensures { λ r. ⌜ Fed next meaning most (now (hash .entry)) (now (hash .exit)) (now (run .entry)) (now (run .exit)) (now (added .entry)) (now (piece .entry)) r ⌝ }
+{
+    feed_run(hash, run, added, most, piece)
 }
 
 // A record of zeros, to be filled in.

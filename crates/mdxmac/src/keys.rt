@@ -4,7 +4,7 @@ ghost use mathlib.Core.Bool.{true};
 ghost use mathlib.Core.List.{List, _++_};
 ghost use Prim.Native.Nat.{ℕ, _+_, _-_, _*_, _<_, _≤_};
 ghost use lib.ListN.{length, take, drop, replicate};
-ghost use Rattle.hash.specs.Meaning.{code};
+ghost use Rattle.hash.specs.Meaning.{step, code, none};
 ghost use Rattle.hash.specs.Meter.{after};
 ghost use Rattle.mac.specs.Face.{within};
 ghost use Rattle.mdxmac.specs.Mdx.{keys, mixed, Recorded};
@@ -14,6 +14,14 @@ use hash::Hash;
 use hash::write_code;
 use mac::KeyRecord;
 use mac::blank_record;
+
+// A round with no added words in force.
+fn plain_round<H: Hash>(hash: &mut H, chain: &mut [u32; 8], block: &[u8; 64])
+    ensures chain { λ _. ⌜ now (chain .exit) ≡ step meaning (now (chain .entry)) none (now (block .entry)) ⌝ }
+    ensures meter { λ _. ⌜ now (hash .exit) ≡ next (now (hash .entry)) ⌝ }
+{
+    hash.round(chain, &[0; 8], block);
+}
 
 // The chain of K', U i and K'.
 fn mixed_chain<H: Hash>(
@@ -31,10 +39,10 @@ fn mixed_chain<H: Hash>(
     *chain = H::first_chain();
     put_key(block, 0, key);
     put_strings::<H>(block, 16, i);
-    hash.round(chain, &[0; 8], block);
+    plain_round(hash, chain, block);
     put_strings::<H>(block, 0, i);
     put_key(block, 48, key);
-    hash.round(chain, &[0; 8], block);
+    plain_round(hash, chain, block);
 }
 
 // Keeps the added words of a chain, and zeros to eight words.

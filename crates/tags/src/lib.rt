@@ -1,11 +1,13 @@
 // The one-shot call: the tag of a key and a message, by the numbers of algorithm and hash. The questions are asked
 // in their order before anything is worked out, and the first no is the refusal.
 ghost use mathlib.Core.Path.{_≡_};
+ghost use mathlib.Core.Bool.{true};
 ghost use mathlib.Core.List.{List, [], _++_};
 ghost use Prim.Native.Nat.{ℕ, _+_, _-_, _*_, _<_, _≤_};
 ghost use lib.ListN.{length, take, drop, replicate};
 ghost use Rattle.std.specs.declared.option.Option.the-variants.{None};
 ghost use Rattle.mac.specs.Promises.{wiped};
+ghost use Rattle.tags.specs.Cases.{WorkedCases};
 ghost use Rattle.tags.specs.Kinds.{hashBy, algorithmBy, meaningOf, faceOf};
 ghost use Rattle.tags.specs.Asked.{firstNo, questions, asked, written, Long};
 ghost use Rattle.tags.specs.Tag.{answeredBy, tagBy, answered, tagOf};
@@ -207,4 +209,17 @@ pub fn make_tag(
     let algorithm = AlgorithmKind::by_number(algorithm);
     let hash = HashKind::by_number(hash);
     make_by(algorithm, hash, t, key, message, out, guard.block)
+}
+
+fn work_cases()
+    ensures { λ _. ⌜ WorkedCases ⌝ }
+{}
+
+// The worked cases of the rules hold, all of them: block counts and the repeated key.
+pub fn worked_cases() -> bool
+    ensures cases { λ _. ⌜ WorkedCases ⌝ }
+    ensures answer { λ r. ⌜ r ≡ true ⌝ }
+{
+    work_cases();
+    true
 }

@@ -19,9 +19,9 @@ returns g c =
     let lk = length-K' key (c .pre .some) in
     let lt = length-three m h i in
     record {
-      chain = mixed-is m h key (c .first-chain .result) (c .put-strings .last .block) (c .put-key-2 .last .block) (c .round .last .chain) (c .round-2 .last .chain) i (c .pre .some) (c .first-chain .ensures)
+      chain = mixed-is m h key (c .first-chain .result) (c .put-strings .last .block) (c .put-key-2 .last .block) (c .plain-round .last .chain) (c .plain-round-2 .last .chain) i (c .pre .some) (c .first-chain .ensures)
           (two-put (c .args .block .now) (c .put-key .last .block) (c .put-strings .last .block) (K' key) (three m i) 16 size (omega arith) (omega arith) (c .put-key .ensures) (c .put-strings .ensures))
           (two-put (c .put-strings .last .block) (c .put-strings-2 .last .block) (c .put-key-2 .last .block) (three m i) (K' key) 48 size2 (omega arith) (omega arith) (c .put-strings-2 .ensures) (c .put-key-2 .ensures))
-          (c .round .ensures .chain) (c .round-2 .ensures .chain);
-      meter = two-turns (g .H·Hash .next) (c .args .hash .now) (c .round .last .self) (c .round-2 .last .self) (c .round .ensures .meter) (c .round-2 .ensures .meter);
+          (c .plain-round .ensures .chain) (c .plain-round-2 .ensures .chain);
+      meter = two-turns (g .H·Hash .next) (c .args .hash .now) (c .plain-round .last .hash) (c .plain-round-2 .last .hash) (c .plain-round .ensures .meter) (c .plain-round-2 .ensures .meter);
     }

@@ -3,7 +3,7 @@ use native.Mathlib.Omega.{arith}
 use Rattle.std.proofs.shelf.Lists.{length-set, take-all}
 use Rattle.hash.specs.Words.{word, words}
 use Rattle.hash.proofs.Load.{words-more}
-use Rattle.hash.proofs.block_words.Needs as need
+use Rattle.hash.proofs.load_words.Needs as need
 
 pub loop-t-holds : need.loop-t-holds
 unfolding words

@@ -10,7 +10,7 @@ use Rattle.hash.specs.Meter.{after}
 use Rattle.hash.proofs.Gather.{kept-front}
 use Rattle.hash.proofs.Join.{join-chain, join-held}
 use Rattle.hash.proofs.Turns.{after-none}
-use Rattle.mac.proofs.feed.Needs as need
+use Rattle.mac.proofs.feed_run.Needs as need
 
 pub returns-then-not-run : need.returns-then-not-run
 returns-then-not-run g c = record {

@@ -2,7 +2,7 @@ use mathlib.Core.Path.{_≡_, refl, ap, sym, _∙_}
 use Prim.Native.Nat.{ℕ, _+_, _*_, _<_}
 use Rattle.hash.proofs.Chain.{chained-more}
 use Rattle.hash.proofs.Turns.{after-none, after-more}
-use Rattle.hash.proofs.chain_blocks.Needs as need
+use Rattle.hash.proofs.fold_blocks.Needs as need
 
 pub loop-i-holds : need.loop-i-holds
 loop-i-holds g c = (refl, sym (after-none (g .H·Hash .next) (c .args .hash .now)))

@@ -1,7 +1,7 @@
 use mathlib.Core.Path.{_≡_}
 use Rattle.hash.specs.Meaning.{chained}
 use Rattle.hash.specs.Meter.{after}
-use Rattle.hash.proofs.chain_blocks.Given as given
+use Rattle.hash.proofs.fold_blocks.Given as given
 
 abbrev pub Inv-loop-i : given.InvT-loop-i
 Inv-loop-i g l =

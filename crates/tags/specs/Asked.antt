@@ -1,5 +1,5 @@
 -- What an algorithm over a hash is asked before it makes a tag, and the answer. Assumes nothing.
-use Prim.Native.Nat.{ℕ, _+_}
+use Prim.Native.Nat.{ℕ, _+_, _≤_}
 use mathlib.Core.Path.{_≡_}
 use mathlib.Core.Bool.{Bool, cond, not, _&&_}
 use mathlib.Core.List.{List, [], _∷_, _++_}
@@ -48,7 +48,7 @@ abbrev pub written : Result ℕ Refusal → List ℕ → ℕ → List ℕ → Li
 written (Ok rounds) tag t out = tag ++ drop t out
 written (Err e) tag t out = out
 
--- a tag that was written has t bytes
-abbrev pub Long : Result ℕ Refusal → List ℕ → ℕ → Type 0
-Long (Ok rounds) tag t = length tag ≡ t
-Long (Err e) tag t = Unit {0}
+-- a tag that was written has t bytes, for which there was room
+abbrev pub Long : Result ℕ Refusal → List ℕ → ℕ → ℕ → Type 0
+Long (Ok rounds) tag t room = (length tag ≡ t) × (t ≤ room)
+Long (Err e) tag t room = Unit {0}

@@ -111,7 +111,7 @@ fn make<H: Hash, A: Algorithm<H>>(
     requires open { ⌜ firstNo (questions (A·Algorithm .face) (H·Hash .meaning .added) t (length (now key)) (length (now message)) (length (now out))) ≡ None ⌝ }
     ensures answer { λ r. ⌜ r ≡ asked (A·Algorithm .face) (H·Hash .meaning .added) t (length (now (key .entry))) (length (now (message .entry))) (length (now (out .entry))) ⌝ }
     ensures tag { λ r. ⌜ now (out .exit) ≡ written r (A·Algorithm .face .tag (now (key .entry)) (now (message .entry)) t) t (now (out .entry)) ⌝ }
-    ensures long { λ r. ⌜ Long r (A·Algorithm .face .tag (now (key .entry)) (now (message .entry)) t) t ⌝ }
+    ensures long { λ r. ⌜ Long r (A·Algorithm .face .tag (now (key .entry)) (now (message .entry)) t) t (length (now (out .entry))) ⌝ }
 {
     let record = A::expand(hash, key, work)?;
     let mut run = A::begin(&record);
@@ -132,7 +132,7 @@ fn answer<H: Hash, A: Algorithm<H>>(
     requires { ⌜ H·Hash .reading (now hash) ≡ 0 ⌝ }
     ensures answer { λ r. ⌜ r ≡ asked (A·Algorithm .face) (H·Hash .meaning .added) t (length (now (key .entry))) (length (now (message .entry))) (length (now (out .entry))) ⌝ }
     ensures tag { λ r. ⌜ now (out .exit) ≡ written r (A·Algorithm .face .tag (now (key .entry)) (now (message .entry)) t) t (now (out .entry)) ⌝ }
-    ensures long { λ r. ⌜ Long r (A·Algorithm .face .tag (now (key .entry)) (now (message .entry)) t) t ⌝ }
+    ensures long { λ r. ⌜ Long r (A·Algorithm .face .tag (now (key .entry)) (now (message .entry)) t) t (length (now (out .entry))) ⌝ }
 {
     if let Some(refusal) = first_no::<H, A>(t, key.len(), message.len(), out.len()) {
         return Err(refusal);
@@ -153,7 +153,7 @@ fn answer_by<H: Hash>(
     requires { ⌜ reading (now hash) ≡ 0 ⌝ }
     ensures answer { λ r. ⌜ r ≡ asked (faceOf algorithm meaning) (meaning .added) t (length (now (key .entry))) (length (now (message .entry))) (length (now (out .entry))) ⌝ }
     ensures tag { λ r. ⌜ now (out .exit) ≡ written r (faceOf algorithm meaning .tag (now (key .entry)) (now (message .entry)) t) t (now (out .entry)) ⌝ }
-    ensures long { λ r. ⌜ Long r (faceOf algorithm meaning .tag (now (key .entry)) (now (message .entry)) t) t ⌝ }
+    ensures long { λ r. ⌜ Long r (faceOf algorithm meaning .tag (now (key .entry)) (now (message .entry)) t) t (length (now (out .entry))) ⌝ }
 {
     match algorithm {
         AlgorithmKind::OfMdxMac => answer::<H, MdxMac>(hash, t, key, message, out, work),
@@ -174,7 +174,7 @@ fn make_by(
 ) -> Result<u64, Refusal>
     ensures answer { λ r. ⌜ r ≡ answeredBy algorithm hash t (length (now (key .entry))) (length (now (message .entry))) (length (now (out .entry))) ⌝ }
     ensures tag { λ r. ⌜ now (out .exit) ≡ written r (tagBy algorithm hash t (now (key .entry)) (now (message .entry))) t (now (out .entry)) ⌝ }
-    ensures long { λ r. ⌜ Long r (tagBy algorithm hash t (now (key .entry)) (now (message .entry))) t ⌝ }
+    ensures long { λ r. ⌜ Long r (tagBy algorithm hash t (now (key .entry)) (now (message .entry))) t (length (now (out .entry))) ⌝ }
 {
     let Some(algorithm) = algorithm else {
         return Err(Refusal::Unknown);
@@ -202,7 +202,7 @@ pub fn make_tag(
 ) -> Result<u64, Refusal>
     ensures answer { λ r. ⌜ r ≡ answered algorithm hash t (length (now (key .entry))) (length (now (message .entry))) (length (now (out .entry))) ⌝ }
     ensures tag { λ r. ⌜ now (out .exit) ≡ written r (tagOf algorithm hash t (now (key .entry)) (now (message .entry))) t (now (out .entry)) ⌝ }
-    ensures long { λ r. ⌜ Long r (tagOf algorithm hash t (now (key .entry)) (now (message .entry))) t ⌝ }
+    ensures long { λ r. ⌜ Long r (tagOf algorithm hash t (now (key .entry)) (now (message .entry))) t (length (now (out .entry))) ⌝ }
     ensures wiped { λ _. ⌜ now (work .exit) ≡ wiped ⌝ }
 {
     let guard = Wipe { block: work };

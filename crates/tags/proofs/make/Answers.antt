@@ -42,5 +42,5 @@ returns g c =
     record {
       answer = ap Ok rounds ∙ sym (ap (λ o. unlessRefused o (f .setup + f .whole n)) (c .pre .open));
       tag = ended .2;
-      long = g .A·Algorithm·met .sized key message t (pass .tag);
+      long = (g .A·Algorithm·met .sized key message t (pass .tag), pass .fits);
     }

@@ -1,0 +1,35 @@
+-- The lines of an input, and all the replies to it. Assumes nothing.
+use mathlib.Core.List.{List, [], _∷_, _++_}
+use Prim.Native.Nat.{ℕ}
+use Rattle.std.specs.Joined.{joined}
+use Rattle.requests.specs.Form.{pieces}
+use Rattle.requests.specs.Reply.{reply}
+
+abbrev pub fronts : List (List ℕ) → List (List ℕ)
+fronts [] = []
+fronts (p ∷ []) = []
+fronts (p ∷ q ∷ ps) = p ∷ fronts (q ∷ ps)
+
+abbrev pub final : List (List ℕ) → List ℕ
+final [] = []
+final (p ∷ []) = p
+final (p ∷ q ∷ ps) = final (q ∷ ps)
+
+-- the lines that a newline ends
+abbrev pub ended : List ℕ → List (List ℕ)
+ended input = fronts (pieces 10 input)
+
+-- what follows the last newline
+abbrev pub unended : List ℕ → List ℕ
+unended input = final (pieces 10 input)
+
+abbrev pub replies : List ℕ → List ℕ
+replies input = joined reply (ended input)
+
+-- a last line without a newline counts, and an empty rest is no line
+abbrev pub lastReply : List ℕ → List ℕ
+lastReply [] = []
+lastReply (b ∷ bs) = reply (b ∷ bs)
+
+abbrev pub transcript : List ℕ → List ℕ
+transcript input = replies input ++ lastReply (unended input)

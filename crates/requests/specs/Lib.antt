@@ -1,0 +1,5 @@
+pub mod Form
+pub mod Input
+pub mod Read
+pub mod Reply
+pub mod Stands

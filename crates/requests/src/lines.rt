@@ -1,0 +1,12 @@
+// The line of an input that no newline has ended yet. An input comes in chunks, which may be cut anywhere.
+ghost use Prim.Native.Nat.{_≤_};
+
+mod feed;
+
+// The first bytes of the line, one more than the longest line has: so much tells that a line is too long.
+#[derive(Drop)]
+pub struct Lines {
+    held: [u8; 1025],
+    len: usize,
+    ghost fits: { len ≤ 1025 },
+}

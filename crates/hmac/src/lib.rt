@@ -15,7 +15,7 @@ use hash::chain_end;
 use hash::write_code;
 use mac::Algorithm;
 use mac::KeyRecord;
-use mac::Refusal;
+use refusals::Refusal;
 use mac::Row;
 use mac::Run;
 use mac::Span;

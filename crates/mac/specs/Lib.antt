@@ -1,4 +1,3 @@
-pub mod Refusals
 pub mod Face
 pub mod Promises
 pub mod Stream

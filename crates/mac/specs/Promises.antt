@@ -10,8 +10,8 @@ use Rattle.std.specs.declared.result.Result.the-variants.{Ok, Err}
 use Rattle.hash.specs.Meter.{after}
 use Rattle.mac.specs.declared.KeyRecord.{KeyRecord}
 use Rattle.mac.specs.declared.Run.{Run}
-use Rattle.mac.specs.declared.Refusal.{Refusal}
-use Rattle.mac.specs.declared.Refusal.the-variants.{KeyLength, TagLength, MessageLength, Room, NotBegun}
+use Rattle.refusals.specs.declared.Refusal.{Refusal}
+use Rattle.refusals.specs.declared.Refusal.the-variants.{KeyLength, TagLength, MessageLength, Room, NotBegun}
 use Rattle.mac.specs.Face.{Face, within, free}
 
 -- the work block once it is wiped

@@ -9,8 +9,8 @@ use Rattle.std.specs.declared.result.Result.the-variants.{Ok, Err}
 use Rattle.hash.specs.Meaning.{Meaning, chained}
 use Rattle.hash.specs.Meter.{after}
 use Rattle.mac.specs.declared.Run.{Run}
-use Rattle.mac.specs.declared.Refusal.{Refusal}
-use Rattle.mac.specs.declared.Refusal.the-variants.{MessageLength, NotBegun}
+use Rattle.refusals.specs.declared.Refusal.{Refusal}
+use Rattle.refusals.specs.declared.Refusal.the-variants.{MessageLength, NotBegun}
 
 -- the chain has the whole blocks of the bytes, from a start and under added words; the block holds what is left of them
 pub record Stream (m : Meaning) (most : ℕ) (start added : List ℕ) (run : Run) (bytes : List ℕ) : Type 0 where

@@ -6,40 +6,12 @@ ghost use mathlib.Core.Bool.{true};
 ghost use mathlib.Core.List.{List, [], _++_};
 ghost use Prim.Native.Nat.{ℕ, _+_, _-_, _*_, _/_, _%_, _^_, _<_, _≤_};
 ghost use lib.ListN.{length, getD, set, take, drop, replicate};
-ghost use Rattle.mac.specs.Refusals.{number};
 ghost use Rattle.mac.specs.Face.{Face, Laws, Limits, within, free, blank, started};
 ghost use Rattle.mac.specs.Promises.{wiped, Expanded, Added, Closed, Ended};
 ghost use Rattle.mac.specs.Stream.{Fed};
 use hash::Hash;
 use hash::absorb;
-
-// Why a call was refused: the first question that was answered no, which gives it its number.
-#[derive(Clone, Copy)]
-pub enum Refusal {
-    Unknown,
-    NoAddedWords,
-    KeyLength,
-    TagLength,
-    MessageLength,
-    Room,
-    NotBegun,
-}
-
-impl Refusal {
-    pub fn code(self) -> u8
-        ensures { λ r. ⌜ r ≡ number self ⌝ }
-    {
-        match self {
-            Refusal::Unknown => 1,
-            Refusal::NoAddedWords => 2,
-            Refusal::KeyLength => 3,
-            Refusal::TagLength => 4,
-            Refusal::MessageLength => 5,
-            Refusal::Room => 6,
-            Refusal::NotBegun => 11,
-        }
-    }
-}
+use refusals::Refusal;
 
 // Lengths from the least to the most.
 #[derive(Clone, Copy)]

@@ -9,8 +9,8 @@ use Rattle.std.specs.declared.option.Option.{Option}
 use Rattle.std.specs.declared.option.Option.the-variants.{Some, None}
 use Rattle.std.specs.declared.result.Result.{Result}
 use Rattle.std.specs.declared.result.Result.the-variants.{Ok, Err}
-use Rattle.mac.specs.Refusals.{number}
-use Rattle.mac.specs.declared.Refusal.{Refusal}
+use Rattle.refusals.specs.Numbers.{number}
+use Rattle.refusals.specs.declared.Refusal.{Refusal}
 use Rattle.tags.specs.Tag.{answered, tagOf}
 use Rattle.requests.specs.Form.{Asked, askedOf}
 

@@ -12,7 +12,7 @@ ghost use Rattle.requests.specs.Form.{asking};
 ghost use Rattle.requests.specs.Read.{toldOf};
 ghost use Rattle.requests.specs.Reply.{hexDigit, hexOf, saidOf, answerTo, said};
 use crate::form::Request;
-use mac::Refusal;
+use refusals::Refusal;
 use tags::make_tag;
 
 // The longest tag.

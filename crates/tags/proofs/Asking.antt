@@ -10,10 +10,11 @@ use Rattle.std.specs.declared.option.Option.{Option}
 use Rattle.std.specs.declared.option.Option.the-variants.{None, Some}
 use Rattle.hash.specs.Meter.{after, moved}
 use Rattle.hash.proofs.Turns.{after-after, reads}
-use Rattle.mac.specs.declared.Refusal.{Refusal}
-use Rattle.mac.specs.declared.Refusal.the-variants.{NoAddedWords, KeyLength, TagLength, MessageLength, Room}
+use Rattle.refusals.specs.declared.Refusal.{Refusal}
+use Rattle.refusals.specs.declared.Refusal.the-variants.{NoAddedWords, KeyLength, TagLength, MessageLength, Room}
 use Rattle.mac.specs.Face.{Face, within}
-use Rattle.tags.specs.Asked.{asks, firstNo, questions}
+use Rattle.refusals.specs.Questions.{asks, firstNo}
+use Rattle.tags.specs.Asked.{questions}
 
 no-way : (e : Refusal) → _≡_ {A = Option Refusal} (Some e) None → ⊥
 no-way e p = let z : _≡_ {A = ℕ} 0 1 = cc in omega arith

@@ -9,22 +9,10 @@ use Rattle.std.specs.declared.option.Option.{Option}
 use Rattle.std.specs.declared.option.Option.the-variants.{Some, None}
 use Rattle.std.specs.declared.result.Result.{Result}
 use Rattle.std.specs.declared.result.Result.the-variants.{Ok, Err}
-use Rattle.mac.specs.declared.Refusal.{Refusal}
-use Rattle.mac.specs.declared.Refusal.the-variants.{NoAddedWords, KeyLength, TagLength, MessageLength, Room}
+use Rattle.refusals.specs.declared.Refusal.{Refusal}
+use Rattle.refusals.specs.declared.Refusal.the-variants.{NoAddedWords, KeyLength, TagLength, MessageLength, Room}
+use Rattle.refusals.specs.Questions.{Question, asks, firstNo}
 use Rattle.mac.specs.Face.{Face, within}
-
--- a question's answer, with the refusal that a no is
-pub record Question : Type 0 where
-  pub passes : Bool
-  pub refusal : Refusal
-
-abbrev pub asks : Bool → Refusal → Question
-asks b e = record { passes = b; refusal = e }
-
--- the first no
-abbrev pub firstNo : List Question → Option Refusal
-firstNo [] = None
-firstNo (q ∷ qs) = cond (q .passes) (firstNo qs) (Some (q .refusal))
 
 -- of a hash with so many added words, a tag of t bytes, a key of k and a message of n, and the room
 abbrev pub questions : Face → ℕ → ℕ → ℕ → ℕ → ℕ → List Question

@@ -5,8 +5,8 @@ use Rattle.std.specs.declared.option.Option.{Option}
 use Rattle.std.specs.declared.option.Option.the-variants.{Some, None}
 use Rattle.std.specs.declared.result.Result.{Result}
 use Rattle.std.specs.declared.result.Result.the-variants.{Err}
-use Rattle.mac.specs.declared.Refusal.{Refusal}
-use Rattle.mac.specs.declared.Refusal.the-variants.{Unknown}
+use Rattle.refusals.specs.declared.Refusal.{Refusal}
+use Rattle.refusals.specs.declared.Refusal.the-variants.{Unknown}
 use Rattle.tags.specs.declared.HashKind.{HashKind}
 use Rattle.tags.specs.declared.AlgorithmKind.{AlgorithmKind}
 use Rattle.tags.specs.Kinds.{hashBy, algorithmBy, meaningOf, faceOf}

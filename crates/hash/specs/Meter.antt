@@ -6,6 +6,6 @@ abbrev pub moved : ℕ → ℕ → ℕ
 moved was r = min (was + r) (2 ^ 64 - 1)
 
 -- a hash after r rounds, where `next` is the hash after one: nothing but its meter differs
-unfoldable pub after : {H : Type 0} → (H → H) → H → ℕ → H
+abbrev pub after : {H : Type 0} → (H → H) → H → ℕ → H
 after next h zero = h
 after next h (suc r) = next (after next h r)

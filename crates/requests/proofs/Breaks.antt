@@ -1,13 +1,12 @@
 -- The pieces of a text that goes on. Assumes nothing.
-use mathlib.Core.Path.{_≡_, refl, sym, ap, subst, _∙_}
-use mathlib.Core.Logic.{⊎-elim}
+use mathlib.Core.Path.{_≡_, refl, sym, ap, _∙_}
 use mathlib.Core.Bool.{Bool, true, false, cond}
 use mathlib.Core.List.{List, [], _∷_, _++_}
 use Prim.Native.Nat.{ℕ, _<_}
 use native.Mathlib.Omega.{arith}
 use lib.Dec.{eqb}
 use lib.ListN.{length}
-use Rattle.std.proofs.shelf.Tests.{eq-eqb, ne-eqb, cond-true, cond-false, cases-bool}
+use Rattle.std.proofs.shelf.Tests.{eq-eqb, ne-eqb, cond-true, cond-false}
 use Rattle.requests.specs.Form.{begun, pieces}
 use Rattle.requests.specs.Input.{fronts, final}
 use Rattle.requests.proofs.Pieces.{pieces-some}
@@ -58,17 +57,6 @@ led-append false c x (p ∷ q ∷ ps) ys e h = refl
 pub pieces-append : (c : ℕ) (xs ys : List ℕ) → pieces c (xs ++ ys) ≡ fronts (pieces c xs) ++ pieces c (final (pieces c xs) ++ ys)
 pieces-append c [] ys = refl
 pieces-append c (x ∷ xs) ys = ap (led (eqb x c) x) (pieces-append c xs ys) ∙ led-append (eqb x c) c x (pieces c xs) ys refl (pieces-some c xs)
-
-led-one : (v : Bool) (c x : ℕ) (ps : List (List ℕ)) → eqb x c ≡ v → 0 < length ps → pieces c (final ps) ≡ final ps ∷ [] → pieces c (final (led v x ps)) ≡ final (led v x ps) ∷ []
-led-one v c x [] e h one = absurd (omega arith)
-led-one true c x (p ∷ ps) e h one = one
-led-one false c x (p ∷ []) e h one = cond-false _ _ _ e ∙ ap (begun x) one
-led-one false c x (p ∷ q ∷ ps) e h one = one
-
--- the last piece is one piece
-pub final-one : (c : ℕ) (xs : List ℕ) → pieces c (final (pieces c xs)) ≡ final (pieces c xs) ∷ []
-final-one c [] = refl
-final-one c (x ∷ xs) = led-one (eqb x c) c x (pieces c xs) refl (pieces-some c xs) (final-one c xs)
 
 -- what two lists of pieces come to, one after the other
 pub fronts-append : (ps qs : List (List ℕ)) → 0 < length qs → fronts (ps ++ qs) ≡ ps ++ fronts qs

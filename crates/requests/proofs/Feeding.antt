@@ -14,7 +14,7 @@ use Rattle.requests.specs.Reply.{reply}
 use Rattle.requests.specs.Input.{fronts, final, ended, unended, replies, lastReply}
 use Rattle.requests.specs.Stands.{Stands, Fed, Replied, Same}
 use Rattle.requests.proofs.Pieces.{pieces-some}
-use Rattle.requests.proofs.Breaks.{one-broken, one-grown, pieces-append, final-one, fronts-append, final-append}
+use Rattle.requests.proofs.Breaks.{one-broken, one-grown, pieces-append, fronts-append, final-append}
 use Rattle.requests.proofs.Held.{front-some, reply-front}
 
 joined-append : (xs ys : List (List ℕ)) → joined reply (xs ++ ys) ≡ joined reply xs ++ joined reply ys

@@ -1,12 +1,10 @@
 -- The front of a line that is held, and what it tells of the line. Assumes nothing.
-use mathlib.Core.Path.{_≡_, refl, sym, ap, _∙_}
+use mathlib.Core.Path.{_≡_, sym, ap, _∙_}
 use mathlib.Core.Logic.{⊎-elim}
-use mathlib.Core.Bool.{cond}
 use mathlib.Core.List.{List, [], _∷_, _++_}
 use Prim.Native.Nat.{ℕ, _+_, _<_, _≤_}
 use native.Mathlib.Omega.{arith}
-use lib.Dec.{leb}
-use lib.ListN.{length, set, take, length-take, length-append}
+use lib.ListN.{length, set, take, length-take}
 use Rattle.std.specs.declared.option.Option.the-variants.{None}
 use Rattle.std.proofs.shelf.Lists.{take-all, take-append-le, take-more-set, length-push}
 use Rattle.std.proofs.shelf.Tests.{lt-leb, cond-false, cases-lt}

@@ -8,7 +8,7 @@ use Rattle.std.specs.declared.option.Option.{Option}
 use Rattle.std.specs.declared.option.Option.the-variants.{Some, None}
 use Rattle.std.proofs.shelf.Lists.{append-nil, drop-more, take-more-set, drop-all}
 use Rattle.requests.specs.Form.{hexValue, paired, pairsOf, bytesOf}
-use Rattle.requests.specs.Read.{with, pairIs, taken}
+use Rattle.requests.specs.Read.{with, pairIs}
 
 -- bytes before those that follow, if these are bytes
 abbrev pub onto : List ℕ → Option (List ℕ) → Option (List ℕ)

@@ -8,14 +8,16 @@ use lib.ListN.{length, getD}
 use Rattle.std.specs.declared.option.Option.{Option}
 use Rattle.std.specs.declared.option.Option.the-variants.{Some, None}
 
+-- from low to high
 abbrev pub within : ℕ → ℕ → ℕ → Bool
 within low high b = leb low b && leb b high
 
--- what stands between the bytes c of a text: one piece more than there are of these bytes
+-- one byte more at the front of the first piece
 abbrev pub begun : ℕ → List (List ℕ) → List (List ℕ)
 begun b [] = (b ∷ []) ∷ []
 begun b (p ∷ ps) = (b ∷ p) ∷ ps
 
+-- what stands between the bytes c of a text: one piece more than there are of these bytes
 abbrev pub pieces : ℕ → List ℕ → List (List ℕ)
 pieces c [] = [] ∷ []
 pieces c (b ∷ bs) = cond (eqb b c) ([] ∷ pieces c bs) (begun b (pieces c bs))
@@ -51,7 +53,7 @@ bytesOf [] = None
 bytesOf (a ∷ []) = cond (eqb a 45) (Some []) None
 bytesOf (a ∷ b ∷ rest) = pairsOf (a ∷ b ∷ rest)
 
--- what a line asks for
+-- a request for a tag of t bytes
 pub record Asked : Type 0 where
   pub algorithm : ℕ
   pub hash : ℕ
@@ -62,6 +64,7 @@ pub record Asked : Type 0 where
 abbrev pub asking : ℕ → ℕ → ℕ → List ℕ → List ℕ → Asked
 asking a h t k m = record { algorithm = a; hash = h; t = t; key = k; message = m }
 
+-- each of the five is of its form
 abbrev pub askedBy : Option ℕ → Option ℕ → Option ℕ → Option (List ℕ) → Option (List ℕ) → Option Asked
 askedBy None h t k m = None
 askedBy (Some a) None t k m = None
@@ -77,5 +80,6 @@ askedIn fields =
     (askedBy (numberOf (getD fields 0 [])) (numberOf (getD fields 1 [])) (numberOf (getD fields 2 [])) (bytesOf (getD fields 3 [])) (bytesOf (getD fields 4 [])))
     None
 
+-- what a line asks for, its fields parted by one space each
 unfoldable pub askedOf : List ℕ → Option Asked
 askedOf line = askedIn (pieces 32 line)

@@ -5,11 +5,13 @@ use Rattle.std.specs.Joined.{joined}
 use Rattle.requests.specs.Form.{pieces}
 use Rattle.requests.specs.Reply.{reply}
 
+-- every piece but the last
 abbrev pub fronts : List (List ℕ) → List (List ℕ)
 fronts [] = []
 fronts (p ∷ []) = []
 fronts (p ∷ q ∷ ps) = p ∷ fronts (q ∷ ps)
 
+-- the last piece
 abbrev pub final : List (List ℕ) → List ℕ
 final [] = []
 final (p ∷ []) = p
@@ -23,6 +25,7 @@ ended input = fronts (pieces 10 input)
 abbrev pub unended : List ℕ → List ℕ
 unended input = final (pieces 10 input)
 
+-- the replies to the lines that have ended
 abbrev pub replies : List ℕ → List ℕ
 replies input = joined reply (ended input)
 
@@ -31,5 +34,6 @@ abbrev pub lastReply : List ℕ → List ℕ
 lastReply [] = []
 lastReply (b ∷ bs) = reply (b ∷ bs)
 
+-- all the replies to an input, in the order of its lines
 abbrev pub transcript : List ℕ → List ℕ
 transcript input = replies input ++ lastReply (unended input)

@@ -29,6 +29,7 @@ abbrev pub taken : Option ℕ → List ℕ → Option (List ℕ)
 taken None place = None
 taken (Some n) place = Some (take n place)
 
+-- a request, its key and its message at the front of their places
 abbrev pub toldOf : Option Request → List ℕ → List ℕ → Option Asked
 toldOf None key message = None
 toldOf (Some q) key message = Some (asking (q .algorithm) (q .hash) (q .t) (take (q .key) key) (take (q .message) message))

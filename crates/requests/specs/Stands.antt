@@ -3,15 +3,12 @@ use mathlib.Core.Path.{_≡_}
 use mathlib.Core.List.{List, [], _∷_, _++_}
 use Prim.Native.Nat.{ℕ}
 use lib.ListN.{take}
-use Rattle.std.specs.declared.alloc.AllocError.{AllocError}
-use Rattle.std.specs.declared.result.Result.{Result}
-use Rattle.std.specs.declared.result.Result.the-variants.{Ok, Err}
 use Rattle.requests.specs.declared.lines.Lines.{Lines}
 use Rattle.requests.specs.Form.{pieces}
-use Rattle.requests.specs.Reply.{reply}
-use Rattle.requests.specs.Input.{unended, replies, lastReply}
+use Rattle.requests.specs.Input.{unended, replies}
 
--- the bytes that came since the last newline: the first 1,025 of them are held, and these decide the reply
+-- pending are the bytes that came since the last newline. The first 1,025 of them are held, and these decide the reply,
+-- so a line that has become too long stands for every line that begins with them
 pub record Stands (lines : Lines) (pending : List ℕ) : Type 0 where
   pub unbroken : pieces 10 pending ≡ pending ∷ []
   pub held : take (lines .len) (lines .held) ≡ take 1025 pending

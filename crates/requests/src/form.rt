@@ -6,7 +6,7 @@ ghost use Prim.Native.Nat.{ℕ, _+_, _*_, _<_, _≤_};
 ghost use lib.ListN.{length, getD};
 ghost use Rattle.std.specs.Options.{Cases as BySome};
 ghost use Rattle.std.specs.Slices.{found};
-ghost use Rattle.requests.specs.Form.{pieces, digitsOn, numberOf, hexValue, pairsOf, bytesOf, askedOf};
+ghost use Rattle.requests.specs.Form.{pieces, numberOf, hexValue, pairsOf, bytesOf, askedOf};
 ghost use Rattle.requests.specs.Read.{fieldsIn, pairIs, taken, toldOf};
 
 // The most bytes that a field can hold: half of the 1,024 of a line.

@@ -1,8 +1,11 @@
-// Requests for tags, one to a line, and the replies to them.
+// Requests for tags, one to a line, and the replies to them. A line gives an algorithm, a hash, the tag's length, a key
+// and a message; the reply has the tag and the rounds that it took, or the number of the refusal, or `?` for a line of
+// another form. A whole input comes in chunks, which may be cut anywhere: `Lines` holds the line that is not yet ended.
 ghost use mathlib.Core.Path.{_≡_};
-ghost use mathlib.Core.Bool.{cond};
+ghost use mathlib.Core.Bool.{true, cond};
 ghost use mathlib.Core.List.{[], _++_};
-ghost use Rattle.std.specs.Of.Vec.{vec-items};
+ghost use Prim.Native.Nat.{_+_, _≤_};
+ghost use Rattle.std.specs.Of.Vec.{vec-items, vec-len, vec-cap};
 ghost use Rattle.std.specs.Results.{isOk};
 ghost use Rattle.std.specs.Joined.{joined};
 ghost use Rattle.std.specs.Vec.{made};
@@ -24,9 +27,11 @@ mod reply;
 // The longest line that is read.
 const LINE_BYTES: usize = 1024;
 
-// Replies to one line, which comes without its newline. Where memory is wanting, `out` is as it was.
+// Replies to one line, which comes without its newline. Where memory is wanting, `out` is as it was;
+// 86 free bytes suffice.
 pub fn answer_line(line: &[u8], out: &mut Vec<u8>) -> Result<(), AllocError>
-    ensures { λ r. ⌜ vec-items (now (out .exit)) ≡ cond (isOk r) (vec-items (now (out .entry)) ++ reply (now (line .entry))) (vec-items (now (out .entry))) ⌝ }
+    ensures items { λ r. ⌜ vec-items (now (out .exit)) ≡ cond (isOk r) (vec-items (now (out .entry)) ++ reply (now (line .entry))) (vec-items (now (out .entry))) ⌝ }
+    ensures succeeds { λ r. ⌜ (vec-len (now (out .entry)) + 86 ≤ vec-cap (now (out .entry)) → isOk r ≡ true) ⌝ }
 {
     out.reserve(REPLY_BYTES)?;
     let mut key = [0u8; FIELD_BYTES];

@@ -1,4 +1,4 @@
-// The line of an input that no newline has ended yet. An input comes in chunks, which may be cut anywhere.
+// The line of an input that no newline has ended yet. It takes the same memory however long the line becomes.
 ghost use Prim.Native.Nat.{_≤_};
 
 mod feed;

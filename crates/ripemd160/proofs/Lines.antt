@@ -1,17 +1,26 @@
--- One step more of a row. Assumes nothing.
-use mathlib.Core.Path.{_≡_, refl}
+-- One step more of a row, and the words of a chain. Assumes nothing.
+use mathlib.Core.Path.{_≡_, refl, ap, _∙_}
 use mathlib.Core.Bool.{Bool}
 use mathlib.Core.List.{List, [], _∷_, _++_}
-use Prim.Native.Nat.{ℕ, _+_}
+use Prim.Native.Nat.{ℕ, zero, suc, _+_}
+use native.Mathlib.Nat.{add-zero, add-suc, add-assoc}
 use native.Mathlib.Numerals.{add-one}
 use native.Mathlib.Omega.{arith}
 use lib.ListN.{length, getD, set, drop}
-use Rattle.ripemd160.specs.Round.{turned, row}
+use Rattle.ripemd160.specs.Round.{turned, steps}
 
-pub row-more : (right : Bool) (r k : ℕ) (xs from s : List ℕ) (i : ℕ) → s ≡ row right r k xs from i →
-    turned right r k xs s i ≡ row right r k xs from (i + 1)
-unfolding row
-row-more right r k xs from s i e = rw (add-one, e)
+pub steps-more : (right : Bool) (r k : ℕ) (xs s was is : List ℕ) (from i : ℕ) → was ≡ steps right r k xs s from i →
+    is ≡ turned right r k xs was (from + i) → is ≡ steps right r k xs s from (i + 1)
+unfolding steps
+steps-more right r k xs s was is from i e h = h ∙ rw (add-one, e)
+
+-- m steps, and then n
+pub steps-steps : (right : Bool) (r k : ℕ) (xs s : List ℕ) (from m n : ℕ) →
+    steps right r k xs (steps right r k xs s from m) (from + m) n ≡ steps right r k xs s from (m + n)
+unfolding steps
+steps-steps right r k xs s from m zero = rw add-zero
+steps-steps right r k xs s from m (suc n) =
+    rw (add-suc, add-assoc from m n) (ap (λ w. turned right r k xs w (from + (m + n))) (steps-steps right r k xs s from m n))
 
 -- five words written one by one over the first of a list
 pub written : (h w : List ℕ) → length h ≡ 8 → length w ≡ 5 →

@@ -1,13 +1,13 @@
 -- Each digit stands once in each row: one test over the whole table. Assumes nothing.
 use mathlib.Core.Bool.{Bool, true, false}
-use mathlib.Core.List.{List, [], _∷_}
+use mathlib.Core.List.{List}
 use mathlib.Core.Path.{_≡_}
-use Prim.Native.Nat.{ℕ, zero, suc, _+_, _*_, _<_, _≤_}
+use Prim.Native.Nat.{ℕ, zero, suc, _*_, _<_}
 use native.Mathlib.Nat.{le-of-suc-le-suc, eq-or-lt-of-le}
 use native.Mathlib.Omega.{arith}
 use lib.Dec.{T, eqb, ltb, eqb→eq, ltb→lt}
-use lib.ListN.{take, drop, getD, length}
-use mathlib.Core.Logic.{_⊎_, inl, inr, ⊎-elim}
+use lib.ListN.{take, drop, getD}
+use mathlib.Core.Logic.{_⊎_, ⊎-elim}
 use Rattle.ripemd160.specs.Orders.{count, EachOnce, order}
 
 abbrev both : Bool → Bool → Bool

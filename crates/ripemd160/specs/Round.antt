@@ -8,8 +8,8 @@ use lib.ListN.{getD}
 use Rattle.hash.specs.Words.{plus, negated, rotl, words}
 use Rattle.hash.specs.declared.ByteOrder.the-variants.{LowFirst}
 use Rattle.ripemd160.specs.Orders.{order, shift}
-use Rattle.ripemd160.specs.declared.Mixer.{Mixer}
-use Rattle.ripemd160.specs.declared.Mixer.the-variants.{Parity, Choose, Either, Select, Last}
+use Rattle.ripemd160.specs.declared.steps.Mixer.{Mixer}
+use Rattle.ripemd160.specs.declared.steps.Mixer.the-variants.{Parity, Choose, Either, Select, Last}
 
 -- the five functions
 abbrev pub mix : Mixer → ℕ → ℕ → ℕ → ℕ
@@ -50,15 +50,19 @@ abbrev pub turned : Bool → ℕ → ℕ → List ℕ → List ℕ → ℕ → L
 turned right r k xs s i =
     stepped s (getD (mixers right) r Parity) (getD xs (getD (order right) (16 * r + i) 0) 0) k (getD (shift right) (16 * r + i) 0)
 
--- the first n steps of row r
-unfoldable pub row : Bool → ℕ → ℕ → List ℕ → List ℕ → ℕ → List ℕ
-row right r k xs s zero = s
-row right r k xs s (suc n) = turned right r k xs (row right r k xs s n) n
+-- n steps of row r, from step `from` on
+unfoldable pub steps : Bool → ℕ → ℕ → List ℕ → List ℕ → ℕ → ℕ → List ℕ
+steps right r k xs s from zero = s
+steps right r k xs s from (suc n) = turned right r k xs (steps right r k xs s from n) (from + n)
+
+-- row r: its sixteen steps
+unfoldable pub row : Bool → List ℕ → List ℕ → List ℕ → ℕ → List ℕ
+row right added xs s r = steps right r (key right added r) xs s 0 16
 
 -- the first n rows of a line
 abbrev pub rows : Bool → List ℕ → List ℕ → List ℕ → ℕ → List ℕ
 rows right added xs s zero = s
-rows right added xs s (suc r) = row right r (key right added r) xs (rows right added xs s r) 16
+rows right added xs s (suc n) = row right added xs (rows right added xs s n) n
 
 -- a line: five rows of sixteen steps
 abbrev pub line : Bool → List ℕ → List ℕ → List ℕ → List ℕ

@@ -21,5 +21,5 @@ abbrev pub alphabet : ℕ → List ℕ
 alphabet i = (48 + i) ∷ (48 + i) ∷ codes "abcdefghijklmnopqrstuvwxyzABCDEFGHIJKLMNOPQRSTUVWXYZ0123456789"
 
 -- the first 16 bytes of their chain, with no padding
-abbrev pub ruled160 : ℕ → List ℕ
+unfoldable pub ruled160 : ℕ → List ℕ
 ruled160 i = take 16 (code meaning160 (chained meaning160 (meaning160 .first) none (alphabet i) 1))

@@ -1,9 +1,15 @@
-// The tables of RIPEMD-160: for each of the two lines, five rows of sixteen steps.
-// Each row of an order holds every digit from 0 to 15 once; `order` in lib.rt states it.
-use super::Mixer;
+// The tables of RIPEMD-160: for each of the two lines five rows of sixteen steps, and what each row has of its own.
+// Each row of an order holds every digit from 0 to 15 once: `order` states it of the tables that the steps read.
+ghost use mathlib.Core.Path.{_≡_};
+ghost use Prim.Native.Nat.{_<_};
+ghost use lib.ListN.{getD};
+ghost use Rattle.ripemd160.specs.declared.steps.Mixer.the-variants.{Parity};
+ghost use Rattle.ripemd160.specs.Orders.{order as orderOf, shift as shiftOf, EachOnce};
+ghost use Rattle.ripemd160.specs.Round.{mixers, constants};
+use super::steps::Mixer;
 
 // The word of the block that each step of the left line takes.
-pub const ORDER_LEFT: [usize; 80] = [
+const ORDER_LEFT: [usize; 80] = [
     0, // row 0
     1,
     2,
@@ -87,7 +93,7 @@ pub const ORDER_LEFT: [usize; 80] = [
 ];
 
 // The word of the block that each step of the right line takes.
-pub const ORDER_RIGHT: [usize; 80] = [
+const ORDER_RIGHT: [usize; 80] = [
     5, // row 0
     14,
     7,
@@ -171,7 +177,7 @@ pub const ORDER_RIGHT: [usize; 80] = [
 ];
 
 // The places by which each step of the left line rotates.
-pub const SHIFT_LEFT: [u32; 80] = [
+const SHIFT_LEFT: [u32; 80] = [
     11, // row 0
     14,
     15,
@@ -255,7 +261,7 @@ pub const SHIFT_LEFT: [u32; 80] = [
 ];
 
 // The places by which each step of the right line rotates.
-pub const SHIFT_RIGHT: [u32; 80] = [
+const SHIFT_RIGHT: [u32; 80] = [
     8, // row 0
     9,
     9,
@@ -339,7 +345,7 @@ pub const SHIFT_RIGHT: [u32; 80] = [
 ];
 
 // The function of each row.
-pub const MIXERS_LEFT: [Mixer; 5] = [
+const MIXERS_LEFT: [Mixer; 5] = [
     Mixer::Parity,
     Mixer::Choose,
     Mixer::Either,
@@ -347,7 +353,7 @@ pub const MIXERS_LEFT: [Mixer; 5] = [
     Mixer::Last,
 ];
 
-pub const MIXERS_RIGHT: [Mixer; 5] = [
+const MIXERS_RIGHT: [Mixer; 5] = [
     Mixer::Last,
     Mixer::Select,
     Mixer::Either,
@@ -356,6 +362,67 @@ pub const MIXERS_RIGHT: [Mixer; 5] = [
 ];
 
 // The constant of each row.
-pub const CONSTANTS_LEFT: [u32; 5] = [0, 0x5a827999, 0x6ed9eba1, 0x8f1bbcdc, 0xa953fd4e];
+const CONSTANTS_LEFT: [u32; 5] = [0, 0x5a827999, 0x6ed9eba1, 0x8f1bbcdc, 0xa953fd4e];
 
-pub const CONSTANTS_RIGHT: [u32; 5] = [0x50a28be6, 0x5c4dd124, 0x6d703ef3, 0x7a6d76e9, 0];
+const CONSTANTS_RIGHT: [u32; 5] = [0x50a28be6, 0x5c4dd124, 0x6d703ef3, 0x7a6d76e9, 0];
+
+// What a line has at row r or step t: the right line where the flag is true.
+pub(crate) fn mixer_at(right: bool, r: usize) -> Mixer
+    requires { ⌜ r < 5 ⌝ }
+    ensures { λ j. ⌜ j ≡ getD (mixers right) r Parity ⌝ }
+{
+    if right {
+        MIXERS_RIGHT[r]
+    } else {
+        MIXERS_LEFT[r]
+    }
+}
+
+pub(crate) fn order_at(right: bool, t: usize) -> usize
+    requires { ⌜ t < 80 ⌝ }
+    ensures { λ r. ⌜ r ≡ getD (orderOf right) t 0 ⌝ }
+{
+    if right { ORDER_RIGHT[t] } else { ORDER_LEFT[t] }
+}
+
+pub(crate) fn shift_at(right: bool, t: usize) -> u32
+    requires { ⌜ t < 80 ⌝ }
+    ensures { λ r. ⌜ r ≡ getD (shiftOf right) t 0 ⌝ }
+{
+    if right { SHIFT_RIGHT[t] } else { SHIFT_LEFT[t] }
+}
+
+pub(crate) fn constant_at(right: bool, r: usize) -> u32
+    requires { ⌜ r < 5 ⌝ }
+    ensures { λ k. ⌜ k ≡ getD (constants right) r 0 ⌝ }
+{
+    if right {
+        CONSTANTS_RIGHT[r]
+    } else {
+        CONSTANTS_LEFT[r]
+    }
+}
+
+// The order of a line, whole.
+fn table(right: bool) -> [usize; 80]
+    ensures { λ r. ⌜ r ≡ orderOf right ⌝ }
+{
+    if right { ORDER_RIGHT } else { ORDER_LEFT }
+}
+
+// The rule of the orders, by one test over the whole of each.
+fn ruled(right: bool, table: [usize; 80]) -> [usize; 80]
+    requires { ⌜ table ≡ orderOf right ⌝ }
+    ensures value { λ r. ⌜ r ≡ orderOf right ⌝ }
+    ensures once { λ r. ⌜ EachOnce r ⌝ }
+{
+    table
+}
+
+// The order in which a line takes the words of a block, the right line where the flag is true: the very table that the steps read.
+pub fn order(right: bool) -> [usize; 80]
+    ensures value { λ r. ⌜ r ≡ orderOf right ⌝ }
+    ensures once { λ r. ⌜ EachOnce r ⌝ }
+{
+    ruled(right, table(right))
+}

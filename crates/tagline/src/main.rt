@@ -1,5 +1,6 @@
 // Reads requests for tags from standard input, one to a line, and writes a reply to each to standard output. What a line
-// asks for and what is replied is the matter of `requests`; here input and output go by large pieces.
+// asks for and what is replied is the matter of `requests`; here input and output go by large pieces. A read takes what
+// is there, and its replies go out at once.
 use requests::Lines;
 use std::io;
 use std::io::Read;
@@ -7,9 +8,6 @@ use std::io::Write;
 
 // The most bytes of one read.
 const CHUNK: usize = 65536;
-
-// Replies are written out once there are so many bytes of them.
-const FULL: usize = 65536;
 
 fn main(rt: LibcRuntime) -> io::Result<()> {
     let mut input = rt.stdin();
@@ -24,10 +22,8 @@ fn main(rt: LibcRuntime) -> io::Result<()> {
             break;
         }
         lines.feed(&chunk[0..n], &mut out)?;
-        if out.len() >= FULL {
-            output.write_all(&out)?;
-            out.clear();
-        }
+        output.write_all(&out)?;
+        out.clear();
     }
     lines.finish(&mut out)?;
     output.write_all(&out)

@@ -1,6 +1,5 @@
-use mathlib.Core.Path.{ap, subst}
-use mathlib.Core.List.{[], _++_}
-use lib.ListN.{take}
+use mathlib.Core.Path.{subst}
+use mathlib.Core.List.{[]}
 use Rattle.std.specs.Joined.{joined}
 use Rattle.std.specs.Of.Vec.{vec-items}
 use Rattle.std.proofs.shelf.Lists.{take-all}

@@ -2,9 +2,10 @@
 // than its front is held.
 ghost use mathlib.Core.Path.{_≡_};
 ghost use mathlib.Core.List.{List, [], _∷_, _++_};
-ghost use Prim.Native.Nat.{ℕ};
-ghost use Rattle.std.specs.Of.Vec.{vec-items};
-ghost use Rattle.std.specs.Results.{Cases as ByOk};
+ghost use mathlib.Core.Bool.{true};
+ghost use Prim.Native.Nat.{ℕ, _+_, _≤_};
+ghost use Rattle.std.specs.Of.Vec.{vec-items, vec-len, vec-cap};
+ghost use Rattle.std.specs.Results.{isOk, Cases as ByOk};
 ghost use Rattle.requests.specs.Input.{lastReply};
 ghost use Rattle.requests.specs.Reply.{reply};
 ghost use Rattle.requests.specs.Stands.{Stands, Fed, FedSome, Replied, Same};
@@ -35,7 +36,8 @@ impl Lines {
 
     // Replies to a last line without a newline, if there is one. Where memory is wanting, nothing is done.
     pub fn finish(&mut self, out: &mut Vec<u8>) -> Result<(), AllocError>
-        ensures { λ r. ⌜ ByOk r (λ _. Replied lastReply (now (self .entry)) (vec-items (now (out .entry))) (now (self .exit)) (vec-items (now (out .exit)))) (λ _. Same (now (self .entry)) (vec-items (now (out .entry))) (now (self .exit)) (vec-items (now (out .exit)))) ⌝ }
+        ensures told { λ r. ⌜ ByOk r (λ _. Replied lastReply (now (self .entry)) (vec-items (now (out .entry))) (now (self .exit)) (vec-items (now (out .exit)))) (λ _. Same (now (self .entry)) (vec-items (now (out .entry))) (now (self .exit)) (vec-items (now (out .exit)))) ⌝ }
+        ensures succeeds { λ r. ⌜ (vec-len (now (out .entry)) + 86 ≤ vec-cap (now (out .entry)) → isOk r ≡ true) ⌝ }
     {
         self.end_input(out)
     }
@@ -54,7 +56,8 @@ impl Lines {
 
     // The end of a line.
     fn end_line(&mut self, out: &mut Vec<u8>) -> Result<(), AllocError>
-        ensures { λ r. ⌜ ByOk r (λ _. Replied reply (now (self .entry)) (vec-items (now (out .entry))) (now (self .exit)) (vec-items (now (out .exit)))) (λ _. Same (now (self .entry)) (vec-items (now (out .entry))) (now (self .exit)) (vec-items (now (out .exit)))) ⌝ }
+        ensures told { λ r. ⌜ ByOk r (λ _. Replied reply (now (self .entry)) (vec-items (now (out .entry))) (now (self .exit)) (vec-items (now (out .exit)))) (λ _. Same (now (self .entry)) (vec-items (now (out .entry))) (now (self .exit)) (vec-items (now (out .exit)))) ⌝ }
+        ensures succeeds { λ r. ⌜ (vec-len (now (out .entry)) + 86 ≤ vec-cap (now (out .entry)) → isOk r ≡ true) ⌝ }
     {
         let n = self.len;
         answer_line(&self.held[0..n], out)?;
@@ -64,7 +67,8 @@ impl Lines {
 
     // The end of the input.
     fn end_input(&mut self, out: &mut Vec<u8>) -> Result<(), AllocError>
-        ensures { λ r. ⌜ ByOk r (λ _. Replied lastReply (now (self .entry)) (vec-items (now (out .entry))) (now (self .exit)) (vec-items (now (out .exit)))) (λ _. Same (now (self .entry)) (vec-items (now (out .entry))) (now (self .exit)) (vec-items (now (out .exit)))) ⌝ }
+        ensures told { λ r. ⌜ ByOk r (λ _. Replied lastReply (now (self .entry)) (vec-items (now (out .entry))) (now (self .exit)) (vec-items (now (out .exit)))) (λ _. Same (now (self .entry)) (vec-items (now (out .entry))) (now (self .exit)) (vec-items (now (out .exit)))) ⌝ }
+        ensures succeeds { λ r. ⌜ (vec-len (now (out .entry)) + 86 ≤ vec-cap (now (out .entry)) → isOk r ≡ true) ⌝ }
     {
         if self.len == 0 {
             return Ok(());

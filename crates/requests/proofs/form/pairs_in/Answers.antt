@@ -1,7 +1,7 @@
 use mathlib.Core.Path.{_≡_, sym, ap, _∙_}
 use native.Mathlib.Omega.{arith}
 use borrow.Author.Needs.{needs}
-use Prim.Native.Nat.{_+_, _*_, _/_}
+use Prim.Native.Nat.{_/_}
 use lib.ListN.{length}
 use Rattle.requests.specs.Read.{taken}
 use Rattle.std.specs.declared.option.Option.the-variants.{Some}

@@ -1,7 +1,7 @@
 use borrow.Author.Needs.{needs}
 use native.Mathlib.Omega.{arith}
-use lib.ListN.{length, take, length-take}
-use Prim.Native.Nat.{_≤_, _-_}
+use lib.ListN.{length-take}
+use Prim.Native.Nat.{_-_}
 use Rattle.requests.proofs.Answer.{answer-ok, answer-err}
 use Rattle.requests.proofs.reply.put_answer.Needs as need
 

@@ -1,4 +1,3 @@
-use mathlib.Core.List.{_∷_, []}
 use lib.ListN.{take}
 use Rattle.std.specs.Of.Vec.{vec-items}
 use Rattle.requests.proofs.Feeding.{fed-none, fed-more, fed-all, fed-same}

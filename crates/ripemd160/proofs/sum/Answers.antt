@@ -1,7 +1,0 @@
-use borrow.Author.Needs.{needs}
-use Rattle.hash.specs.Words.{plus}
-use Rattle.ripemd160.proofs.sum.Needs as need
-
-pub returns : need.returns
-unfolding plus
-returns c = search needs

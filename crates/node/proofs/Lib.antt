@@ -1,0 +1,4 @@
+pub mod Steps
+pub mod Keys
+pub mod Runs
+pub mod Same

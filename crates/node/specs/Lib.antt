@@ -1,0 +1,5 @@
+pub mod Model
+pub mod Asking
+pub mod Calls
+pub mod Stands
+pub mod Tags

@@ -1,12 +1,12 @@
 -- A header's fields from its bytes and back. Assumes nothing.
-use mathlib.Core.Path.{_≡_, refl, sym, ap, _∙_}
-use mathlib.Core.List.{List, [], _∷_, _++_}
+use mathlib.Core.Path.{_≡_, refl}
+use mathlib.Core.List.{List}
 use Prim.Native.Nat.{ℕ, _+_, _*_, _/_, _%_, _<_}
 use native.Mathlib.Omega.{arith}
-use lib.ListN.{length, getD}
+use lib.ListN.{length}
 use Rattle.std.proofs.shelf.Bits.{shr-shr, div-add-mod', div-below}
 use Rattle.frame.specs.declared.Header.{Header}
-use Rattle.frame.specs.Layout.{headerOf, headerBytes, Fitting, RoundTrip, HeaderFits}
+use Rattle.frame.specs.Layout.{headerOf, headerBytes, RoundTrip, HeaderFits}
 
 -- four bytes make their number again
 pub four : (n : ℕ) → n < 4294967296 → n / 16777216 % 256 * 16777216 + n / 65536 % 256 * 65536 + n / 256 % 256 * 256 + n % 256 ≡ n

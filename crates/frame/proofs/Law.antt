@@ -1,8 +1,8 @@
 -- What is laid out is read back, and what passes every question falls into its parts. Assumes nothing.
 use mathlib.Core.Path.{_≡_, refl, sym, ap, _∙_}
 use mathlib.Core.Bool.{Bool, true, false, cond}
-use mathlib.Core.List.{List, [], _∷_, _++_, append-assoc}
-use Prim.Native.Nat.{ℕ, _+_, _-_, _≤_, _<_}
+use mathlib.Core.List.{List, _∷_, _++_, append-assoc}
+use Prim.Native.Nat.{ℕ, _+_, _≤_, _<_}
 use native.Mathlib.Omega.{arith}
 use borrow.Author.Needs.{needs}
 use borrow.Author.Tests.{eqb-true, leb-true}
@@ -15,9 +15,9 @@ use Rattle.refusals.specs.declared.Refusal.{Refusal}
 use Rattle.refusals.specs.declared.Refusal.the-variants.{FrameLength, Version, Kind, Body}
 use Rattle.refusals.specs.Questions.{asks, firstNo}
 use Rattle.frame.specs.declared.Header.{Header}
-use Rattle.frame.specs.Layout.{headerOf, headerBytes, bodyOf, signedPart, tagIn, Fitting, RoundTrip}
+use Rattle.frame.specs.Layout.{headerOf, headerBytes, bodyOf, signedPart, tagIn}
 use Rattle.frame.specs.Reading.{both, rightBody, bodyQuestions, asked, questions, recordWith, unless, reads}
-use Rattle.frame.specs.Sealing.{headerFor, Sealable, ReadBack, Sealed, Parted, Parts, HeaderCases, LayoutLaws}
+use Rattle.frame.specs.Sealing.{headerFor, Sealable, Sealed, Parts, HeaderCases, LayoutLaws}
 use Rattle.frame.proofs.Bytes.{round-trip, header-length, header-fits}
 
 pub header-cases : HeaderCases
@@ -38,7 +38,9 @@ right-of true b e = e
 right-of false b e = let z : _≡_ {A = ℕ} 0 1 = cc in absurd (omega arith)
 
 -- the questions pass where each of them does
-passing : (h : Header) (n : ℕ) (body : List ℕ) (t : ℕ) → n ≡ 8 + h .size + t → h .version ≡ 1 → firstNo (bodyQuestions (h .kind) body) ≡ None → firstNo (asked h n body t) ≡ None
+passing :
+    (h : Header) (n : ℕ) (body : List ℕ) (t : ℕ) → n ≡ 8 + h .size + t → h .version ≡ 1 →
+    firstNo (bodyQuestions (h .kind) body) ≡ None → firstNo (asked h n body t) ≡ None
 passing h n body t long version right =
     let a : leb 8 n ≡ true = search needs in
     let b : eqb n (8 + h .size + t) ≡ true = search needs in
@@ -103,7 +105,9 @@ limits kind body e =
     (leb-true kind 1 (first .0), few (eqb kind 0) (length body) (getD body 0 0) right)
 
 -- the header for a body that passes its questions
-pub sealable : (slot kind address number : ℕ) (body : List ℕ) → slot < 8 → address < 65536 → number < 4294967296 → firstNo (bodyQuestions kind body) ≡ None → Sealable (headerFor slot kind address number body) body
+pub sealable :
+    (slot kind address number : ℕ) (body : List ℕ) → slot < 8 → address < 65536 → number < 4294967296 →
+    firstNo (bodyQuestions kind body) ≡ None → Sealable (headerFor slot kind address number body) body
 sealable slot kind address number body a b c right =
     let most = limits kind body right in
     record {
@@ -115,13 +119,13 @@ sealable slot kind address number body a b c right =
 
 pub sealed : Sealed
 sealed h body tag t s long = record {
-    passes = passes-back h body tag t s long;
-    header = header-back h body tag t s long;
-    body = body-back h body tag t s long;
-    signed = signed-back h body tag t s long;
-    tag = tag-back h body tag t s long;
-    read = read-back h body tag t s long;
-  }
+  passes = passes-back h body tag t s long;
+  header = header-back h body tag t s long;
+  body = body-back h body tag t s long;
+  signed = signed-back h body tag t s long;
+  tag = tag-back h body tag t s long;
+  read = read-back h body tag t s long;
+}
 
 -- what each question says where none is answered no
 record Passed (h : Header) (n : ℕ) (b : List ℕ) (t : ℕ) : Type 0 where

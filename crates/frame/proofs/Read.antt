@@ -1,8 +1,8 @@
 -- What a reader's answer tells of the frame. Assumes nothing.
 use mathlib.Core.Path.{_≡_, refl, sym, ap, subst, _∙_}
 use mathlib.Core.Bool.{Bool, true, false, cond}
-use mathlib.Core.List.{List, [], _∷_, _++_}
-use Prim.Native.Nat.{ℕ, _+_, _-_, _≤_, _<_}
+use mathlib.Core.List.{List}
+use Prim.Native.Nat.{ℕ, _+_, _≤_, _<_}
 use native.Mathlib.Omega.{arith}
 use borrow.Author.Needs.{needs}
 use Rattle.std.specs.Results.{Cases}
@@ -37,8 +37,8 @@ pub refused-by : (f : Refusal) (o : Option Refusal) (h : Header) (body : List �
 refused-by f (Some g) h body e = cc
 refused-by f None h body e =
     elim (eqb (h .kind) 0) as (λ b. refused f ≡ cond b (level h (getD body 0 0) body) (sheet h body) → None ≡ Some f) [
-      true ↦ λ d. let z : _≡_ {A = ℕ} 0 1 = cc in absurd (omega arith)
-    | false ↦ λ d. let z : _≡_ {A = ℕ} 0 1 = cc in absurd (omega arith)
+      | true ↦ λ d. let z : _≡_ {A = ℕ} 0 1 = cc in absurd (omega arith)
+      | false ↦ λ d. let z : _≡_ {A = ℕ} 0 1 = cc in absurd (omega arith)
     ] e
 
 -- a record's parts are those that it is told by
@@ -71,12 +71,15 @@ unfolding reads
 read-refused frame t f e = refused-by f (firstNo (questions frame t)) (headerOf frame) (bodyOf frame) e
 
 -- a header with what follows it is read as the frame that they make
-pub whole : (frame rest : List ℕ) (h : Header) (t : ℕ) → 8 ≤ length frame → h ≡ headerOf frame → rest ≡ drop 8 frame → readAs h (8 + length rest) (take (h .size) rest) t ≡ reads frame t
+pub whole :
+    (frame rest : List ℕ) (h : Header) (t : ℕ) (x : Told) → 8 ≤ length frame → h ≡ headerOf frame → rest ≡ drop 8 frame →
+    x ≡ readAs h (8 + length rest) (take (h .size) rest) t → x ≡ reads frame t
 unfolding reads questions bodyOf
-whole frame rest h t long e d =
+whole frame rest h t x long e d is =
     let n : 8 + length rest ≡ length frame = omega (arith, ap length d, length-drop 8 frame) in
     let y : take (h .size) rest ≡ take (headerOf frame .size) (drop 8 frame) = cc in
-    ap (λ k. readAs k (8 + length rest) (take (h .size) rest) t) e
+    is
+    ∙ ap (λ k. readAs k (8 + length rest) (take (h .size) rest) t) e
     ∙ ap (λ k. readAs (headerOf frame) k (take (h .size) rest) t) n
     ∙ ap (λ k. readAs (headerOf frame) (length frame) k t) y
 
@@ -86,7 +89,9 @@ unfolding reads questions
 short frame t h = let low : leb 8 (length frame) ≡ false = search needs in rw low refl
 
 -- the header of what is read is the one that it was read from
-pub fits-still : (r : Result Record Refusal) (h : Header) (n : ℕ) (body : List ℕ) (t : ℕ) → Fitting h → tell r ≡ readAs h n body t → Cases r (λ x. Fitting (headerIn x)) (λ _. Unit {0})
+pub fits-still :
+    (r : Result Record Refusal) (h : Header) (n : ℕ) (body : List ℕ) (t : ℕ) → Fitting h → tell r ≡ readAs h n body t →
+    Cases r (λ x. Fitting (headerIn x)) (λ _. Unit {0})
 fits-still (Ok x) h n body t f e =
     let s = same x h (eqb (h .kind) 0) body (accepted-as x (firstNo (asked h n body t)) _ e) in subst Fitting (sym (s .header)) f
 fits-still (Err g) h n body t f e = tt

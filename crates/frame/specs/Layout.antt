@@ -9,13 +9,13 @@ use Rattle.frame.specs.declared.Header.{Header}
 -- the header at the front of the bytes
 unfoldable pub headerOf : List ℕ → Header
 headerOf bs = record {
-    version = getD bs 0 0 / 32;
-    slot = getD bs 0 0 / 4 % 8;
-    kind = getD bs 0 0 % 4;
-    size = getD bs 1 0;
-    address = getD bs 2 0 * 256 + getD bs 3 0;
-    number = getD bs 4 0 * 16777216 + getD bs 5 0 * 65536 + getD bs 6 0 * 256 + getD bs 7 0;
-  }
+  version = getD bs 0 0 / 32;
+  slot = getD bs 0 0 / 4 % 8;
+  kind = getD bs 0 0 % 4;
+  size = getD bs 1 0;
+  address = getD bs 2 0 * 256 + getD bs 3 0;
+  number = getD bs 4 0 * 16777216 + getD bs 5 0 * 65536 + getD bs 6 0 * 256 + getD bs 7 0;
+}
 
 -- a header's eight bytes; a field wider than its bits loses the high ones
 unfoldable pub headerBytes : Header → List ℕ

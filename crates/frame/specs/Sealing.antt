@@ -1,17 +1,16 @@
 -- What a writer lays at the front of a buffer, and that a reader has it back. Assumes nothing.
 use mathlib.Core.Path.{_≡_}
-use mathlib.Core.Bool.{Bool, true, false, cond}
+use mathlib.Core.Bool.{Bool, cond}
 use mathlib.Core.List.{List, [], _∷_, _++_}
-use Prim.Native.Nat.{ℕ, _+_, _≤_, _<_}
-use lib.Dec.{eqb, leb}
-use lib.ListN.{length, getD, drop}
-use Rattle.std.specs.declared.option.Option.{Option}
+use Prim.Native.Nat.{ℕ, _+_}
+use lib.Dec.{leb}
+use lib.ListN.{length, drop}
 use Rattle.std.specs.declared.option.Option.the-variants.{Some, None}
 use Rattle.refusals.specs.declared.Refusal.the-variants.{Body}
 use Rattle.refusals.specs.Questions.{firstNo}
 use Rattle.frame.specs.declared.Header.{Header}
 use Rattle.frame.specs.Layout.{headerOf, headerBytes, bodyOf, signedPart, tagIn, Fitting, RoundTrip, HeaderFits}
-use Rattle.frame.specs.Reading.{both, bodyQuestions, questions, Told, level, sheet, refused, recordWith, reads}
+use Rattle.frame.specs.Reading.{both, bodyQuestions, questions, recordWith, reads}
 
 -- the header that is written for a body
 abbrev pub headerFor : ℕ → ℕ → ℕ → ℕ → List ℕ → Header

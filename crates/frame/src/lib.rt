@@ -5,20 +5,25 @@
 // The reader lends: a record's body is a part of the frame that was read, and nothing is copied. It asks its questions in a fixed order, and the
 // first that is answered no is the refusal. The writer lays header and body at the front of a buffer, where the tag then follows.
 ghost use mathlib.Core.Path.{_≡_};
-ghost use mathlib.Core.Bool.{cond};
-ghost use mathlib.Core.List.{_++_};
-ghost use Prim.Native.Nat.{ℕ, _+_, _*_, _/_, _%_, _≤_};
+ghost use Prim.Native.Nat.{_+_, _/_, _%_, _≤_};
 ghost use lib.ListN.{length, take, drop};
 ghost use Rattle.std.specs.Results.{Cases};
 ghost use Rattle.refusals.specs.Questions.{firstNo};
-ghost use Rattle.frame.specs.Layout.{headerOf, headerBytes, signedPart, tagIn, Fitting};
+ghost use Rattle.frame.specs.Layout.{headerOf, signedPart, tagIn, Fitting};
 ghost use Rattle.frame.specs.Reading.{bodyQuestions, readAs, reads, tell, headerIn, levelIn, bodyIn};
-ghost use Rattle.frame.specs.Sealing.{fitsIn, frontLaid, LayoutLaws};
 use refusals::Refusal;
 
+mod writing;
+
+pub use writing::header_bytes;
+pub use writing::write_front;
+
 const HEADER_BYTES: usize = 8;
+
 const VERSION: u8 = 1;
+
 const MOST_LEVEL: u8 = 100;
+
 const MOST_BODY: usize = 255;
 
 // The fields of a header, in their order.
@@ -35,8 +40,15 @@ pub struct Header {
 // What a frame says; the body is a part of the frame.
 #[derive(Clone, Copy)]
 pub enum Record<'a> {
-    Level { header: Header, level: u8, body: &'a [u8] },
-    Sheet { header: Header, body: &'a [u8] },
+    Level {
+        header: Header,
+        level: u8,
+        body: &'a [u8],
+    },
+    Sheet {
+        header: Header,
+        body: &'a [u8],
+    },
 }
 
 impl<'a> Record<'a> {
@@ -44,8 +56,8 @@ impl<'a> Record<'a> {
         ensures { λ r. ⌜ r ≡ headerIn (self .entry) ⌝ }
     {
         match self {
-            Record::Level { header, level: _, body: _ } => header,
-            Record::Sheet { header, body: _ } => header,
+            Record::Level { header, .. } => header,
+            Record::Sheet { header, .. } => header,
         }
     }
 
@@ -54,8 +66,8 @@ impl<'a> Record<'a> {
         ensures { λ r. ⌜ r ≡ levelIn (self .entry) ⌝ }
     {
         match self {
-            Record::Level { header: _, level, body: _ } => level,
-            Record::Sheet { header: _, body: _ } => 0,
+            Record::Level { level, .. } => level,
+            Record::Sheet { .. } => 0,
         }
     }
 
@@ -63,8 +75,8 @@ impl<'a> Record<'a> {
         ensures { λ r. ⌜ now r ≡ bodyIn (self .entry) ⌝ }
     {
         match self {
-            Record::Level { header: _, level: _, body } => body,
-            Record::Sheet { header: _, body } => body,
+            Record::Level { body, .. } => body,
+            Record::Sheet { body, .. } => body,
         }
     }
 }
@@ -139,7 +151,11 @@ fn judge<'a>(header: Header, rest: &'a [u8], t: usize) -> Result<Record<'a>, Ref
         return Err(refusal);
     }
     match body {
-        [level] if header.kind == 0 => Ok(Record::Level { header, level: *level, body }),
+        [level] if header.kind == 0 => Ok(Record::Level {
+            header,
+            level: *level,
+            body,
+        }),
         _ => Ok(Record::Sheet { header, body }),
     }
 }
@@ -182,56 +198,4 @@ pub fn split_tag(frame: &[u8]) -> (&[u8], &[u8])
     ensures tag { λ r. ⌜ now (r .1) ≡ tagIn (now (frame .entry)) ⌝ }
 {
     frame.split_at(signed_length(frame))
-}
-
-// A header's first byte. A field that is too wide loses its high bits.
-fn first_byte(version: u8, slot: u8, kind: u8) -> u8
-    ensures { λ r. ⌜ r ≡ version % 8 * 32 + slot % 8 * 4 + kind % 4 ⌝ }
-{
-    version % 8 * 32 + slot % 8 * 4 + kind % 4
-}
-
-fn pack(h: Header) -> [u8; 8]
-    ensures bytes { λ r. ⌜ r ≡ headerBytes h ⌝ }
-    ensures laws { λ _. ⌜ LayoutLaws ⌝ }
-{
-    let first = first_byte(h.version, h.slot, h.kind);
-    let [a, b] = h.address.to_be_bytes();
-    let [p, q, r, s] = h.number.to_be_bytes();
-    [first, h.size, a, b, p, q, r, s]
-}
-
-// The eight bytes of a header. Version, slot and kind lose the bits that a header has no place for.
-pub fn header_bytes(header: Header) -> [u8; 8]
-    ensures bytes { λ r. ⌜ r ≡ headerBytes header ⌝ }
-    ensures laws { λ _. ⌜ LayoutLaws ⌝ }
-{
-    pack(header)
-}
-
-// Lays header and body at the front of `out`; the bytes past them keep their value.
-fn put_front(header: Header, body: &[u8], out: &mut [u8])
-    requires { ⌜ 8 + length (now body) ≤ length (now out) ⌝ }
-    ensures { λ _. ⌜ now (out .exit) ≡ headerBytes header ++ (now (body .entry) ++ drop (8 + length (now (body .entry))) (now (out .entry))) ⌝ }
-{
-    let end = HEADER_BYTES + body.len();
-    out[0..HEADER_BYTES].copy_from_slice(&header_bytes(header));
-    out[HEADER_BYTES..end].copy_from_slice(body);
-}
-
-// Writes the header for a body, and the body, at the front of `out`; the bytes past them keep their value. Slot and kind lose the bits that
-// a header has no place for. False, and nothing is written, where the body is longer than 255 bytes or `out` has no room.
-pub fn write_front(slot: u8, kind: u8, address: u16, number: u32, body: &[u8], out: &mut [u8]) -> bool
-    ensures done { λ r. ⌜ r ≡ fitsIn (now (body .entry)) (now (out .entry)) ⌝ }
-    ensures out { λ _. ⌜ now (out .exit) ≡ frontLaid slot kind address number (now (body .entry)) (now (out .entry)) ⌝ }
-{
-    if body.len() > MOST_BODY {
-        return false;
-    }
-    if out.len() < HEADER_BYTES + body.len() {
-        return false;
-    }
-    let header = Header { version: VERSION, slot, kind, size: body.len() as u8, address, number };
-    put_front(header, body, out);
-    true
 }

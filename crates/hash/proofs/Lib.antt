@@ -7,3 +7,4 @@ pub mod Close
 pub mod Join
 pub mod Sums
 pub mod Window
+pub mod Choose

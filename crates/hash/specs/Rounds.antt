@@ -39,6 +39,11 @@ unfoldable pub group : (List ℕ → ℕ → ℕ → List ℕ) → List ℕ → 
 group one s window t zero = s
 group one s window t (suc n) = one (group one s window t n) (t + n) (getD window ((t + n) % 16) 0)
 
+-- n steps from step t on, each with a word that was just renewed in the window
+unfoldable pub rolling : (List ℕ → ℕ → ℕ → List ℕ) → ((ℕ → ℕ) → ℕ → ℕ) → List ℕ → List ℕ → ℕ → ℕ → List ℕ
+rolling one later s window t zero = s
+rolling one later s window t (suc n) = one (rolling one later s window t n) (t + n) (getD (turned later window (suc n)) n 0)
+
 -- the sums of two chains, word by word
 unfoldable pub sums : List ℕ → List ℕ → List ℕ
 sums [] ys = []
@@ -47,4 +52,4 @@ sums (x ∷ xs) (y ∷ ys) = plus x y ∷ sums xs ys
 
 -- a chain whose first n words have those of another added to them
 abbrev pub added : List ℕ → List ℕ → ℕ → List ℕ
-added chain more n = sums (take n chain) (take n more) ++ drop n chain
+added chain more n = sums (take n chain) more ++ drop n chain

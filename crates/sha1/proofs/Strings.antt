@@ -6,11 +6,11 @@ use native.Mathlib.Omega.{arith}
 use lib.ListN.{getD}
 use Rattle.hash.specs.Words.{plus, negated, rotl, word, words}
 use Rattle.hash.specs.Rounds.{ch, maj, extended, steps, sums}
-use Rattle.sha1.specs.Round.{later, mixed, round1}
+use Rattle.sha1.specs.Round.{later, summed, shifted, mixed}
 use Rattle.sha1.specs.Means.{strings1, stringBlock, stringOf}
 
 rule : (i : ℕ) → strings1 i ≡ stringOf (stringBlock i)
-unfolding plus negated rotl word words ch maj extended steps sums later mixed round1
+unfolding plus negated rotl word words ch maj extended steps sums later summed shifted mixed
 rule zero = refl
 rule (suc zero) = refl
 rule (suc (suc i)) = refl

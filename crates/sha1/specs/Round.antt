@@ -33,21 +33,34 @@ later word t = rotl 1 (bitXor (bitXor (bitXor (word (t - 3)) (word (t - 8))) (wo
 abbrev pub schedule : List ℕ → List ℕ
 schedule block = extended later (words HighFirst block 16) 64
 
--- one step on the five words a to e, in the quarter q, with the constant k and the word w
-unfoldable pub mixed : List ℕ → ℕ → ℕ → ℕ → List ℕ
-mixed s q k w =
+-- a step on the five words a to e in the quarter q, with the constant k: its sum before the word of the schedule is added
+unfoldable pub summed : List ℕ → ℕ → ℕ → ℕ
+summed s q k =
     let a = getD s 0 0 in
     let b = getD s 1 0 in
     let c = getD s 2 0 in
     let d = getD s 3 0 in
     let e = getD s 4 0 in
-    plus (plus (plus (plus (rotl 5 a) (logical q b c d)) e) k) w ∷ a ∷ rotl 30 b ∷ c ∷ d ∷ []
+    plus (plus (plus (rotl 5 a) (logical q b c d)) e) k
+
+-- the five words after it, where T is the whole sum
+unfoldable pub shifted : List ℕ → ℕ → List ℕ
+shifted s T =
+    let a = getD s 0 0 in
+    let b = getD s 1 0 in
+    let c = getD s 2 0 in
+    let d = getD s 3 0 in
+    T ∷ a ∷ rotl 30 b ∷ c ∷ d ∷ []
+
+-- one step with the word w
+unfoldable pub mixed : List ℕ → ℕ → ℕ → ℕ → List ℕ
+mixed s q k w = shifted s (plus (summed s q k) w)
 
 -- step t with its word w, where ks are the four constants
 abbrev pub one1 : List ℕ → List ℕ → ℕ → ℕ → List ℕ
 one1 ks s t w = mixed s (t / 20) (getD ks (t / 20) 0) w
 
-unfoldable pub round1 : List ℕ → List ℕ → List ℕ → List ℕ
+abbrev pub round1 : List ℕ → List ℕ → List ℕ → List ℕ
 round1 chain added block = sums chain (steps (one1 (keyed added)) chain (schedule block) 80)
 
 abbrev pub first1 : List ℕ

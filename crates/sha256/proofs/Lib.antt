@@ -1,3 +1,4 @@
 pub mod Every
 pub mod Roots
 pub mod Groups
+pub mod Rotations

@@ -75,7 +75,7 @@ abbrev pub one256 : List ℕ → ℕ → ℕ → List ℕ
 one256 s t w = mixed s (constant t) w
 
 -- the round, which takes no added words
-unfoldable pub round256 : List ℕ → List ℕ → List ℕ → List ℕ
+abbrev pub round256 : List ℕ → List ℕ → List ℕ → List ℕ
 round256 chain added block = sums chain (steps one256 chain (schedule block) 64)
 
 abbrev pub first256 : List ℕ

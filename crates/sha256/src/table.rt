@@ -81,7 +81,7 @@ fn entry(t: usize) -> u32
 }
 
 // K of step t.
-pub fn constant_at(t: usize) -> u32
+pub(crate) fn constant_at(t: usize) -> u32
     requires { ⌜ t < 64 ⌝ }
     ensures value { λ r. ⌜ r ≡ constant t ⌝ }
     ensures root { λ r. ⌜ CubeRoot (prime t) r ⌝ }

@@ -68,7 +68,7 @@ fn tag_over<H: Hash>(
 }
 
 // Writes the tag of a row, made in pieces.
-pub fn tag_in_pieces(row: &TagRow, out: &mut [u8]) -> Result<(), Refusal> {
+pub(crate) fn tag_in_pieces(row: &TagRow, out: &mut [u8]) -> Result<(), Refusal> {
     let Some(algorithm) = AlgorithmKind::by_number(row.algorithm) else {
         return Err(Refusal::Unknown);
     };

@@ -68,7 +68,7 @@ fn message(heap: Global, field: &str) -> Result<Vec<u8>, AnyError> {
     Ok(vec![in heap; letter; times]?)
 }
 
-pub fn read_row(heap: Global, line: &str) -> Result<Row, AnyError> {
+pub(crate) fn read_row(heap: Global, line: &str) -> Result<Row, AnyError> {
     let fields: Vec<&str> = line.split_whitespace().collect(heap)?;
     match fields.as_slice() {
         ["hash", hash, text, code] => Ok(Row::Plain(HashRow {

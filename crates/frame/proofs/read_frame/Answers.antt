@@ -1,7 +1,7 @@
-use mathlib.Core.Path.{_∙_}
 use Prim.Native.Nat.{_+_}
 use native.Mathlib.Omega.{arith}
 use lib.ListN.{length, take}
+use Rattle.frame.specs.Reading.{tell}
 use Rattle.frame.proofs.Read.{whole, short, fits-still}
 use Rattle.frame.proofs.read_frame.Needs as need
 
@@ -14,6 +14,6 @@ returns c =
     let rest = c .read-header .result .1 .now in
     let read = c .read-header .ensures in
     record {
-      read = c .judge .ensures ∙ whole (c .args .frame .now) rest header (c .args .t) (omega arith) (read .fields) (read .rest);
+      read = whole (c .args .frame .now) rest header (c .args .t) (tell (c .judge .result)) (omega arith) (read .fields) (read .rest) (c .judge .ensures);
       fits = fits-still (c .judge .result) header (8 + length rest) (take (header .size) rest) (c .args .t) (read .fits) (c .judge .ensures);
     }

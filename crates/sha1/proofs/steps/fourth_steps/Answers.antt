@@ -1,6 +1,6 @@
-use Rattle.hash.specs.Rounds.{group}
+use Rattle.hash.specs.Rounds.{turned, rolling}
 use Rattle.sha1.proofs.steps.fourth_steps.Needs as need
 
 pub returns : need.returns
-unfolding group
-returns c = cc
+unfolding turned rolling
+returns c = record { steps = cc; words = cc }

@@ -1,7 +1,6 @@
-use Rattle.hash.specs.Words.{rotl}
 use Rattle.sha1.specs.Round.{mixed}
 use Rattle.sha1.proofs.steps.step.Needs as need
 
 pub returns : need.returns
-unfolding mixed rotl
+unfolding mixed
 returns c = cc

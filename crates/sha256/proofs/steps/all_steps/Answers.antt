@@ -1,27 +1,25 @@
-use mathlib.Core.Path.{_≡_, refl}
-use Prim.Native.Nat.{ℕ, _+_, _*_}
+use mathlib.Core.Path.{_≡_}
 use native.Mathlib.Omega.{arith}
-use Rattle.hash.specs.Rounds.{steps}
-use Rattle.hash.proofs.Window.{group-steps}
-use Rattle.sha256.specs.Round.{schedule, one256}
-use Rattle.sha256.proofs.Groups.{started, turns}
+use lib.ListN.{take}
+use Rattle.std.proofs.shelf.Lists.{take-all}
+use Rattle.sha256.proofs.Groups.{begins, goes-on}
 use Rattle.sha256.proofs.steps.all_steps.Needs as need
-
-pub loop-i-holds : need.loop-i-holds
-unfolding steps
-loop-i-holds c = (started (c .args .block .now) (c .block-words-window .result) (c .block-words-window .ensures), refl)
-
-pub loop-i-again : need.loop-i-again
-loop-i-again c =
-    let l = c .loop-i in
-    let b = c .args .block .now in
-    let g = c .sixteen-steps-next in (
-      turns b (l .window) (c .turn .last .window) (l .i) (omega arith) (l .inv .0) (c .turn .ensures),
-      group-steps one256 (c .args .chain) (l .window) (schedule b) (16 * l .i) (l .inv .0) (l .s) (g .result) (16 * (l .i + 1)) (l .inv .1) (g .ensures) (omega arith),
-    )
 
 pub returns : need.returns
 returns c =
-    let l = c .loop-i in
-    let end : 16 * l .i ≡ 48 = omega arith in
-    group-steps one256 (c .args .chain) (l .window) (schedule (c .args .block .now)) 48 (rw end at (l .inv .0)) (l .s) (c .sixteen-steps .result) 64 (rw end at (l .inv .1)) (c .sixteen-steps .ensures) refl
+    let b = c .args .block .now in
+    let h = c .args .chain .now in
+    let whole : take 8 h ≡ h = take-all 8 h (omega arith) in
+    let w0 = c .block-words-window .result in
+    let w1 = c .second-steps-s .last .window in
+    let w2 = c .third-steps-s .last .window in
+    let w3 = c .fourth-steps .last .window in
+    let s0 = c .first-steps-s .result in
+    let s1 = c .second-steps-s .result in
+    let s2 = c .third-steps-s .result in
+    let s3 = c .fourth-steps .result in
+    let at0 = begins b h w0 s0 (c .block-words-window .ensures) (c .first-steps-s .ensures) in
+    let at1 = goes-on 0 b h w0 s0 w1 s1 (omega arith) at0 (c .second-steps-s .ensures .steps) (c .second-steps-s .ensures .words) in
+    let at2 = goes-on 1 b h w1 s1 w2 s2 (omega arith) at1 (c .third-steps-s .ensures .steps) (c .third-steps-s .ensures .words) in
+    let at3 = goes-on 2 b h w2 s2 w3 s3 (omega arith) at2 (c .fourth-steps .ensures .steps) (c .fourth-steps .ensures .words) in
+    rw whole (at3 .done)

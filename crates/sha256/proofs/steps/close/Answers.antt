@@ -10,8 +10,7 @@ loop-i-holds c = (c .told-chain, sym (added-none (c .args .chain .now) (c .args 
 
 pub loop-i-again : need.loop-i-again
 loop-i-again c =
-    let l = c .loop-i in
-    (
+    let l = c .loop-i in (
       length-set (l .chain) (l .i) _ ∙ l .inv .0,
       added-more (c .args .chain .now) (c .args .last .now) (l .chain) (l .i) (c .sum .result) (omega arith) (omega arith) (l .inv .1) (c .sum .ensures),
     )

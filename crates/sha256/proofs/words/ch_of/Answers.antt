@@ -1,8 +1,6 @@
-use mathlib.Core.Path.{refl}
-use Rattle.hash.specs.Words.{negated}
-use Rattle.hash.specs.Rounds.{ch}
+use native.Mathlib.Omega.{arith}
+use Rattle.hash.proofs.Choose.{chosen}
 use Rattle.sha256.proofs.words.ch_of.Needs as need
 
 pub returns : need.returns
-unfolding ch negated
-returns c = refl
+returns c = chosen (c .args .x) (c .args .y) (c .args .z) (omega arith) (omega arith)

@@ -1,7 +1,5 @@
-use mathlib.Core.Path.{refl}
-use Rattle.hash.specs.Rounds.{maj}
+use Rattle.hash.proofs.Choose.{most}
 use Rattle.sha256.proofs.words.maj_of.Needs as need
 
 pub returns : need.returns
-unfolding maj
-returns c = refl
+returns c = most (c .args .x) (c .args .y) (c .args .z)

@@ -15,7 +15,6 @@ use hash::chain_end;
 use hash::write_code;
 use mac::Algorithm;
 use mac::KeyRecord;
-use refusals::Refusal;
 use mac::Row;
 use mac::Run;
 use mac::Span;
@@ -23,6 +22,13 @@ use mac::Wipe;
 use mac::blank_record;
 use mac::feed;
 use mac::start_run;
+use refusals::Refusal;
+
+// The lengths of keys, in bytes.
+const KEYS: Span = Span {
+    least: 16,
+    most: 64,
+};
 
 // The longest message, in bytes.
 const MOST: u32 = 1_048_576;
@@ -98,7 +104,7 @@ pub impl<H: Hash> Algorithm<H> for Hmac as HmacAlgorithm {
 
     fn row_of() -> Row {
         Row {
-            key: Span { least: 16, most: 64 },
+            key: KEYS,
             tag: Span {
                 least: 1,
                 most: 4 * H::shape_of().words,
@@ -113,8 +119,7 @@ pub impl<H: Hash> Algorithm<H> for Hmac as HmacAlgorithm {
 
     fn expand(hash: &mut H, key: &[u8], work: &mut [u8; 64]) -> Result<KeyRecord, Refusal> {
         let guard = Wipe { block: work };
-        let keys = Span { least: 16, most: 64 };
-        if !keys.has(key.len()) {
+        if !KEYS.has(key.len()) {
             return Err(Refusal::KeyLength);
         }
         Ok(key_record(hash, guard.block, key))

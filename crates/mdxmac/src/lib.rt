@@ -15,19 +15,23 @@ use hash::chain_end;
 use hash::write_code;
 use mac::Algorithm;
 use mac::KeyRecord;
-use refusals::Refusal;
 use mac::Row;
 use mac::Run;
 use mac::Span;
 use mac::Wipe;
 use mac::feed;
 use mac::start_run;
+use refusals::Refusal;
 
 mod keys;
 mod lay;
 
+// The lengths of keys, in bytes.
+const KEYS: Span = Span { least: 1, most: 16 };
+
 // The longest message of each algorithm, in bytes.
 const MOST: u32 = 1_048_576;
+
 const MOST_SHORT: u32 = 32;
 
 // Ends the message and makes the last round; the chain's code stands first in the block.
@@ -61,7 +65,7 @@ pub impl<H: Hash> Algorithm<H> for MdxMac as MdxAlgorithm {
 
     fn row_of() -> Row {
         Row {
-            key: Span { least: 1, most: 16 },
+            key: KEYS,
             tag: Span {
                 least: 1,
                 most: 4 * H::shape_of().words,
@@ -76,8 +80,7 @@ pub impl<H: Hash> Algorithm<H> for MdxMac as MdxAlgorithm {
 
     fn expand(hash: &mut H, key: &[u8], work: &mut [u8; 64]) -> Result<KeyRecord, Refusal> {
         let guard = Wipe { block: work };
-        let keys = Span { least: 1, most: 16 };
-        if !keys.has(key.len()) {
+        if !KEYS.has(key.len()) {
             return Err(Refusal::KeyLength);
         }
         Ok(key_record(hash, guard.block, key))
@@ -107,7 +110,7 @@ pub impl<H: Hash> Algorithm<H> for ShortMac as ShortAlgorithm {
 
     fn row_of() -> Row {
         Row {
-            key: Span { least: 1, most: 16 },
+            key: KEYS,
             tag: Span {
                 least: 1,
                 most: 2 * H::shape_of().words,
@@ -122,8 +125,7 @@ pub impl<H: Hash> Algorithm<H> for ShortMac as ShortAlgorithm {
 
     fn expand(hash: &mut H, key: &[u8], work: &mut [u8; 64]) -> Result<KeyRecord, Refusal> {
         let guard = Wipe { block: work };
-        let keys = Span { least: 1, most: 16 };
-        if !keys.has(key.len()) {
+        if !KEYS.has(key.len()) {
             return Err(Refusal::KeyLength);
         }
         Ok(key_record(hash, guard.block, key))

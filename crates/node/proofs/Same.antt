@@ -28,15 +28,15 @@ Agree xs ys i d = (d ≡ 0 → take i xs ≡ take i ys) × (take i xs ≡ take i
 pub agree-more : (xs ys : List ℕ) (i d : ℕ) → i < length xs → i < length ys → Agree xs ys i d → Agree xs ys (i + 1) (bitOr d (bitXor (getD xs i 0) (getD ys i 0)))
 agree-more xs ys i d lx ly a = (
   λ e.
-    let z = or-none d (bitXor (getD xs i 0) (getD ys i 0)) e in
-    let here = xor-none (getD xs i 0) (getD ys i 0) (z .1) in
-    take-more xs i 0 lx ∙ ap (λ (zs : List ℕ). zs ++ getD xs i 0 ∷ []) (a .0 (z .0)) ∙ ap (λ (x : ℕ). take i ys ++ x ∷ []) here ∙ sym (take-more ys i 0 ly),
+      let z = or-none d (bitXor (getD xs i 0) (getD ys i 0)) e in
+      let here = xor-none (getD xs i 0) (getD ys i 0) (z .1) in
+      take-more xs i 0 lx ∙ ap (λ (zs : List ℕ). zs ++ getD xs i 0 ∷ []) (a .0 (z .0)) ∙ ap (λ (x : ℕ). take i ys ++ x ∷ []) here ∙ sym (take-more ys i 0 ly),
   λ e.
-    let le : i ≤ i + 1 = omega arith in
-    let lt : i < i + 1 = omega arith in
-    let before : take i xs ≡ take i ys = sym (take-take i (i + 1) xs le) ∙ ap (take i) e ∙ take-take i (i + 1) ys le in
-    let here : getD xs i 0 ≡ getD ys i 0 = sym (getD-take (i + 1) xs i 0 lt) ∙ ap (λ (zs : List ℕ). getD zs i 0) e ∙ getD-take (i + 1) ys i 0 lt in
-    ap (λ (x : ℕ). bitOr x (bitXor (getD xs i 0) (getD ys i 0))) (a .1 before) ∙ or-zero-l (bitXor (getD xs i 0) (getD ys i 0)) ∙ ap (λ (x : ℕ). bitXor x (getD ys i 0)) here ∙ xor-self (getD ys i 0),
+      let le : i ≤ i + 1 = omega arith in
+      let lt : i < i + 1 = omega arith in
+      let before : take i xs ≡ take i ys = sym (take-take i (i + 1) xs le) ∙ ap (take i) e ∙ take-take i (i + 1) ys le in
+      let here : getD xs i 0 ≡ getD ys i 0 = sym (getD-take (i + 1) xs i 0 lt) ∙ ap (λ (zs : List ℕ). getD zs i 0) e ∙ getD-take (i + 1) ys i 0 lt in
+      ap (λ (x : ℕ). bitOr x (bitXor (getD xs i 0) (getD ys i 0))) (a .1 before) ∙ or-zero-l (bitXor (getD xs i 0) (getD ys i 0)) ∙ ap (λ (x : ℕ). bitXor x (getD ys i 0)) here ∙ xor-self (getD ys i 0),
 )
 
 -- two tests of one fact are equal

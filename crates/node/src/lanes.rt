@@ -96,7 +96,12 @@ impl<H: Hash, A: Algorithm<H>> Node<H, A> {
     }
 
     // Writes the tag of the lane's bytes, and frees the lane.
-    pub fn finish(&mut self, lane: usize, out: &mut [u8], work: &mut [u8; 64]) -> Result<(), Refusal>
+    pub fn finish(
+        &mut self,
+        lane: usize,
+        out: &mut [u8],
+        work: &mut [u8; 64],
+    ) -> Result<(), Refusal>
         ensures obeys { λ r. ⌜ Obeys (H·Hash .next) (A·Algorithm .face) (now (self .entry)) (now (self .exit)) r (λ m. guarded m (finish (A·Algorithm .face) m lane (length (now (out .entry))))) ⌝ }
         ensures written { λ r. ⌜ ((m : Model) → Stands (H·Hash .next) (A·Algorithm .face) (now (self .entry)) m → now (out .exit) ≡ written (A·Algorithm .face) m r (tag-at (A·Algorithm .face) m lane) (now (out .entry))) ⌝ }
         ensures zeroed { λ _. ⌜ now (work .exit) ≡ wiped ⌝ }
@@ -138,7 +143,12 @@ impl<H: Hash, A: Algorithm<H>> Node<H, A> {
         self.compare_lane(lane, tag, work)
     }
 
-    fn compare_lane(&mut self, lane: usize, tag: &[u8], work: &mut [u8; 64]) -> Result<bool, Refusal>
+    fn compare_lane(
+        &mut self,
+        lane: usize,
+        tag: &[u8],
+        work: &mut [u8; 64],
+    ) -> Result<bool, Refusal>
         requires { ⌜ now self .refusal ≡ None ⌝ }
         ensures obeys { λ r. ⌜ Obeys (H·Hash .next) (A·Algorithm .face) (now (self .entry)) (now (self .exit)) r (λ m. judge (A·Algorithm .face) m lane (now (tag .entry))) ⌝ }
         ensures zeroed { λ _. ⌜ now (work .exit) ≡ wiped ⌝ }

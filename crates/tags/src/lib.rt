@@ -16,12 +16,12 @@ use hash::Hash;
 use hmac::Hmac;
 use hmac::HmacAlgorithm;
 use mac::Algorithm;
-use refusals::Refusal;
 use mac::Wipe;
 use mdxmac::MdxAlgorithm;
 use mdxmac::MdxMac;
 use mdxmac::ShortAlgorithm;
 use mdxmac::ShortMac;
+use refusals::Refusal;
 use ripemd160::Ripemd160;
 use ripemd160::Ripemd160Hash;
 use sha1::Sha1;
@@ -184,7 +184,15 @@ fn make_by(
         return Err(Refusal::Unknown);
     };
     match hash {
-        HashKind::OfRipemd160 => answer_by(&mut Ripemd160::new(), algorithm, t, key, message, out, work),
+        HashKind::OfRipemd160 => answer_by(
+            &mut Ripemd160::new(),
+            algorithm,
+            t,
+            key,
+            message,
+            out,
+            work,
+        ),
         HashKind::OfSha1 => answer_by(&mut Sha1::new(), algorithm, t, key, message, out, work),
         HashKind::OfSha256 => answer_by(&mut Sha256::new(), algorithm, t, key, message, out, work),
     }

@@ -27,23 +27,23 @@ returns g c =
     let B = c .write-bits .last .block in
     elim (c .if-at-ge56 .came) [
       | then-at-ge56 w ↦
-        (let isZ = w .block-is ∙ w .fill .ensures .after (λ y e. e) in
-        record {
-          chain = close-two m (c .args .chain .now) (c .args .added .now) block at total size (c .pre .within) (c .pre .place)
-              M Z B E 56 (length M) refl (c .mark .array-long) (w .if-at-ge56 .taken) (c .mark .ensures) isZ (c .write-bits .ensures) isE
-              (c .if-at-ge56 .chain) (c .round-2 .last .chain) (w .chain-is ∙ w .round .ensures .chain) (end .chain);
-          block = block-two m (c .args .chain .now) (c .args .added .now) block at total size (c .pre .within) (c .pre .place)
-              M Z B E 56 (length M) refl (c .mark .array-long) (w .if-at-ge56 .taken) (c .mark .ensures) isZ (c .write-bits .ensures) isE;
-          meter = turns-two next (c .args .hash .now) (c .if-at-ge56 .hash) _ at (w .if-at-ge56 .taken) (c .pre .within) (w .hash-is ∙ w .round .ensures .meter) (end .meter);
-        })
+          (let isZ = w .block-is ∙ w .fill .ensures .after (λ y e. e) in
+          record {
+            chain = close-two m (c .args .chain .now) (c .args .added .now) block at total size (c .pre .within) (c .pre .place)
+                M Z B E 56 (length M) refl (c .mark .array-long) (w .if-at-ge56 .taken) (c .mark .ensures) isZ (c .write-bits .ensures) isE
+                (c .if-at-ge56 .chain) (c .round-2 .last .chain) (w .chain-is ∙ w .round .ensures .chain) (end .chain);
+            block = block-two m (c .args .chain .now) (c .args .added .now) block at total size (c .pre .within) (c .pre .place)
+                M Z B E 56 (length M) refl (c .mark .array-long) (w .if-at-ge56 .taken) (c .mark .ensures) isZ (c .write-bits .ensures) isE;
+            meter = turns-two next (c .args .hash .now) (c .if-at-ge56 .hash) _ at (w .if-at-ge56 .taken) (c .pre .within) (w .hash-is ∙ w .round .ensures .meter) (end .meter);
+          })
       | else-at-ge56 w ↦
-        (let isB = c .write-bits .ensures ∙ ap (λ (xs : List ℕ). take 56 xs ++ E) (w .block-is) in
-        record {
-          chain = close-one m (c .args .chain .now) (c .args .added .now) block at total size (c .pre .within) (c .pre .place)
-              M B E 56 refl (w .if-at-ge56 .left) (c .mark .ensures) isB isE
-              (c .round-2 .last .chain) (end .chain ∙ ap (λ (s : List ℕ). step m s (c .args .added .now) B) (w .chain-is));
-          block = block-one m (c .args .chain .now) (c .args .added .now) block at total size (c .pre .within) (c .pre .place)
-              M B E 56 refl (w .if-at-ge56 .left) (c .mark .ensures) isB isE;
-          meter = turns-one next (c .args .hash .now) (c .if-at-ge56 .hash) _ at (w .if-at-ge56 .left) (w .hash-is) (end .meter);
-        })
+          (let isB = c .write-bits .ensures ∙ ap (λ (xs : List ℕ). take 56 xs ++ E) (w .block-is) in
+          record {
+            chain = close-one m (c .args .chain .now) (c .args .added .now) block at total size (c .pre .within) (c .pre .place)
+                M B E 56 refl (w .if-at-ge56 .left) (c .mark .ensures) isB isE
+                (c .round-2 .last .chain) (end .chain ∙ ap (λ (s : List ℕ). step m s (c .args .added .now) B) (w .chain-is));
+            block = block-one m (c .args .chain .now) (c .args .added .now) block at total size (c .pre .within) (c .pre .place)
+                M B E 56 refl (w .if-at-ge56 .left) (c .mark .ensures) isB isE;
+            meter = turns-one next (c .args .hash .now) (c .if-at-ge56 .hash) _ at (w .if-at-ge56 .left) (w .hash-is) (end .meter);
+          })
     ]

@@ -86,10 +86,10 @@ returns g c =
         odd = λ _ e. absurd (both-ways _ e fits);
         short = λ _ _ lt. absurd (omega arith);
         tagged = λ k b s _ le. (
-              refl,
-              closed .meter k b s,
-              c .write-front .ensures ∙ ap (λ (xs : List ℕ). xs ++ drop t out) (closed .code k b t s fits),
-            );
+          refl,
+          closed .meter k b s,
+          c .write-front .ensures ∙ ap (λ (xs : List ℕ). xs ++ drop t out) (closed .code k b t s fits),
+        );
         refused = λ e q. absurd (let z : _≡_ {A = ℕ} 0 1 = cc in omega arith);
         freed = λ _. c .free-run .ensures;
         past = ap (drop t) (c .write-front .ensures) ∙ drop-at (take t block) (drop t out) t (let long : length block ≡ 64 = closed .long in simp length-take (omega arith));

@@ -206,6 +206,46 @@ def tagline_cases(rows):
     return cases
 
 
+def asking():
+    """`ask` rows: each question of the one-shot call at both of its edges, and which of several noes comes first."""
+    key = "00112233445566778899AABBCCDDEEFF"
+    words = {1: 5, 3: 5, 4: 8}
+    rows = []
+
+    def ask(algorithm, hash, t, key, message, room, number):
+        rows.append(f"ask {algorithm} {hash} {t} {key} {message} {room} {number}")
+
+    for algorithm in (0, 4, 255):
+        ask(algorithm, 1, 10, key, "-", 32, 1)
+    for hash in (0, 2, 5, 8):
+        ask(2, hash, 10, key, "-", 32, 1)
+    for algorithm in (1, 3):
+        ask(algorithm, 4, 8, key, "-", 32, 2)
+    ask(2, 4, 8, key, "-", 32, 0)
+    for algorithm in (1, 2, 3):
+        for hash in (1, 3, 4):
+            if algorithm != 2 and hash == 4:
+                continue
+            most = (2 if algorithm == 3 else 4) * words[hash]
+            low, high = (16, 64) if algorithm == 2 else (1, 16)
+            longest = 32 if algorithm == 3 else 1048576
+            for size, number in ((low - 1, 3), (low, 0), (high, 0), (high + 1, 3)):
+                ask(algorithm, hash, 1, f"5A*{size}" if size else "-", "-", 32, number)
+            for t, number in ((0, 4), (1, 0), (most, 0), (most + 1, 4)):
+                ask(algorithm, hash, t, key, "-", 32, number)
+            ask(algorithm, hash, most, key, f"A5*{longest}", 32, 0)
+            ask(algorithm, hash, most, key, f"A5*{longest + 1}", 32, 5)
+            ask(algorithm, hash, most, key, "616263", most, 0)
+            ask(algorithm, hash, most, key, "616263", most - 1, 6)
+    ask(9, 9, 0, "-", "A5*1048577", 0, 1)
+    ask(1, 4, 0, "-", "A5*1048577", 0, 2)
+    ask(1, 1, 0, "-", "A5*1048577", 0, 3)
+    ask(1, 1, 0, key, "A5*1048577", 0, 4)
+    ask(1, 1, 1, key, "A5*1048577", 0, 5)
+    ask(1, 1, 1, key, "-", 0, 6)
+    return [row.encode() for row in rows]
+
+
 def write(crate, name, data):
     path = ROOT / "crates" / crate / name
     path.parent.mkdir(parents=True, exist_ok=True)
@@ -216,7 +256,8 @@ def write(crate, name, data):
 def main():
     rows = published()
     kept = [row for row in rows if covered(row)]
-    write("vectors", "stdin", b"".join(row + b"\n" for row in kept))
+    asks = asking()
+    write("vectors", "stdin", b"".join(row + b"\n" for row in kept + asks))
     hashes = sum(row.startswith(b"hash ") for row in kept)
     tags = len(kept) - hashes
     write(
@@ -224,7 +265,8 @@ def main():
         "stdout",
         f"hash rows: {hashes} agree, 0 differ\n"
         f"tag rows, by one call: {tags} agree, 0 differ\n"
-        f"tag rows, in pieces: {tags} agree, 0 differ\n".encode(),
+        f"tag rows, in pieces: {tags} agree, 0 differ\n"
+        f"answer numbers: {len(asks)} agree, 0 differ\n".encode(),
     )
     cases = tagline_cases(rows)
     write("tagline", "stdin", b"\n".join(text for text, _ in cases))

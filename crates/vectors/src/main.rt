@@ -10,6 +10,7 @@ ghost use Rattle.hash.specs.Meaning.{hashed};
 ghost use Rattle.tags.specs.Tag.{tagOf};
 ghost use Rattle.vectors.specs.Codes.{codeOf};
 use crate::pieces::tag_in_pieces;
+use crate::rows::AskRow;
 use crate::rows::HashRow;
 use crate::rows::Row;
 use crate::rows::TagRow;
@@ -129,11 +130,36 @@ fn pieces_agree(row: &TagRow) -> bool {
     made.is_ok() && begins(&out, row.t, row.tag.as_slice())
 }
 
+// Whether the one-shot call answers with the row's number. A refusal leaves the place to write as it was, and the work
+// block is wiped either way.
+fn number_agrees(row: &AskRow) -> bool {
+    let key = row.key.as_slice();
+    let message = row.message.as_slice();
+    let room = row.room.min(32);
+    let mut out = [0xee; 32];
+    let mut work = [0xee; 64];
+    let made = make_tag(
+        row.algorithm,
+        row.hash,
+        row.t,
+        key,
+        message,
+        &mut out[0..room],
+        &mut work,
+    );
+    let number = match made {
+        Ok(_) => 0,
+        Err(refusal) => refusal.code(),
+    };
+    number == row.number && work == [0; 64] && (number == 0 || out == [0xee; 32])
+}
+
 fn run(rt: &LibcRuntime) -> Result<(), AnyError> {
     let heap = rt.alloc();
     let mut hashes = Count::new("hash rows");
     let mut calls = Count::new("tag rows, by one call");
     let mut runs = Count::new("tag rows, in pieces");
+    let mut asked = Count::new("answer numbers");
     for line in BufReader::new(rt.stdin()).lines(heap) {
         let line = line?;
         let text = line.as_str();
@@ -143,9 +169,10 @@ fn run(rt: &LibcRuntime) -> Result<(), AnyError> {
                 calls.row(rt, text, call_agrees(&row))?;
                 runs.row(rt, text, pieces_agree(&row))?;
             }
+            Row::Asking(row) => asked.row(rt, text, number_agrees(&row))?,
         }
     }
-    println!(rt, "{hashes}\n{calls}\n{runs}")?;
+    println!(rt, "{hashes}\n{calls}\n{runs}\n{asked}")?;
     Ok(())
 }
 

@@ -1,5 +1,7 @@
-// Rows of published examples, as text: `hash H MESSAGE CODE` and `tag A H T KEY MESSAGE TAG`. Bytes are pairs of
-// upper-case hexadecimal digits, or `-` for none; a message may also be a byte and how often it stands, `61*1000000`.
+// Rows of examples, as text: `hash H MESSAGE CODE`, `tag A H T KEY MESSAGE TAG`, and `ask A H T KEY MESSAGE ROOM NUMBER`
+// for the number that the one-shot call answers with, 0 where it accepts. Bytes are pairs of
+// upper-case hexadecimal digits, or `-` for none; a message may also be a byte and how often it stands, `61*1000000`,
+// and so may the key of an `ask` row.
 ghost use Prim.Native.Nat.{_<_};
 ghost use Rattle.std.specs.Slices.{found};
 use std::alloc::Global;
@@ -23,9 +25,21 @@ pub struct TagRow {
 }
 
 #[derive(Drop)]
+pub struct AskRow {
+    pub algorithm: u32,
+    pub hash: u32,
+    pub t: usize,
+    pub key: Vec<u8>,
+    pub message: Vec<u8>,
+    pub room: usize,
+    pub number: u8,
+}
+
+#[derive(Drop)]
 pub enum Row {
     Plain(HashRow),
     Keyed(TagRow),
+    Asking(AskRow),
 }
 
 // The value of a hexadecimal digit.
@@ -84,6 +98,15 @@ pub(crate) fn read_row(heap: Global, line: &str) -> Result<Row, AnyError> {
             message: message(heap, text)?,
             tag: bytes(heap, tag)?,
         })),
-        _ => Err("neither a row of a hash nor one of a tag".into()),
+        ["ask", algorithm, hash, t, key, text, room, number] => Ok(Row::Asking(AskRow {
+            algorithm: algorithm.parse()?,
+            hash: hash.parse()?,
+            t: t.parse()?,
+            key: message(heap, key)?,
+            message: message(heap, text)?,
+            room: room.parse()?,
+            number: number.parse()?,
+        })),
+        _ => Err("no row".into()),
     }
 }

@@ -3,22 +3,27 @@ use mathlib.Core.Path.{_≡_, refl, ap, _∙_, sym}
 use mathlib.Core.List.{List, [], _∷_, _++_, append-assoc, append-nil}
 use Prim.Native.Nat.{ℕ, _+_, _-_, _*_, _/_, _%_, _≤_, _<_, _^_, min}
 use native.Mathlib.Omega.{arith}
-use lib.Dec.{lit<}
+use mathlib.Core.Bool.{cond}
+use lib.Dec.{lit<, eqb}
+use Rattle.std.proofs.shelf.Tests.{ne-eqb}
 use lib.ListN.{length, take, drop, length-drop, length-take, length-append, take-append-drop}
 use lib.Seq.{drop-append-add}
 use Rattle.std.proofs.shelf.Lists.{take-all, take-at, drop-all, drop-at}
 use Rattle.hash.specs.Meaning.{Meaning, step, chained}
-use Rattle.hash.specs.Held.{filled, tailAfter, copied, joined, wholeBlocks, keptOf}
+use Rattle.hash.specs.Held.{filled, tailAfter, copied, joined, wholeBlocks, restOf, laidOver, keptOf}
 use Rattle.hash.specs.Meter.{after}
 use Rattle.hash.proofs.Message.{chained-append}
 use Rattle.hash.proofs.Turns.{after-one, after-after}
 
--- a block that was filled from its start
-from-start : (held piece : List ℕ) → length piece ≤ length held → filled held 0 piece ≡ piece ++ drop (length piece) held
+-- a rest, laid over a block from its start
+pub from-start : (held rest : List ℕ) → length rest ≤ length held → filled held 0 rest ≡ laidOver rest held
 from-start held piece le =
     let all : copied held 0 piece ≡ length piece = omega arith in
     let whole : take (length piece) piece ≡ piece = take-all (length piece) piece (omega arith) in
     rw (all, whole)
+
+pub rest-sized : (piece : List ℕ) → length (restOf piece) ≡ length piece % 64
+rest-sized piece = simp length-drop (omega arith)
 
 -- a block that holds nothing
 pub empty-blocks : (piece : List ℕ) → wholeBlocks 0 piece ≡ length piece / 64
@@ -31,26 +36,25 @@ module _ (held : List ℕ) (at : ℕ) (piece : List ℕ) (l : length held ≡ 64
   joined-sized : length (joined held at piece) ≡ at + length piece
   joined-sized = simp length-append (omega (arith, sized))
 
+  left-sized : length (drop (64 * wholeBlocks at piece) (joined held at piece)) ≡ (at + length piece) % 64
+  left-sized = simp length-drop (omega (arith, joined-sized))
+
   -- what is left stands first
   pub kept-front : take ((at + length piece) % 64) (keptOf held at piece) ≡ drop (64 * wholeBlocks at piece) (joined held at piece)
-  kept-front =
-      let long : length (drop (64 * wholeBlocks at piece) (joined held at piece)) ≡ (at + length piece) % 64 =
-      simp length-drop (omega (arith, joined-sized)) in
-      take-at (drop (64 * wholeBlocks at piece) (joined held at piece)) (drop ((at + length piece) % 64) (filled held at piece)) ((at + length piece) % 64) long
+  kept-front = take-at (drop (64 * wholeBlocks at piece) (joined held at piece)) _ ((at + length piece) % 64) left-sized
 
-  -- a piece that does not fill the block
-  pub short-held : (out : List ℕ) → out ≡ filled held at piece → length piece < 64 - at → out ≡ keptOf held at piece
-  short-held out e lt =
+  -- a piece that finds bytes held, and does not fill the block
+  pub short-held : (out : List ℕ) → (at ≡ 0 → ⊥) → out ≡ filled held at piece → length piece < 64 - at → out ≡ keptOf held at piece
+  short-held out some e lt =
       let all : copied held at piece ≡ length piece = omega arith in
       let whole : take (length piece) piece ≡ piece = take-all (length piece) piece (omega arith) in
       let rest : List ℕ = drop (length piece) (drop at held) in
-      let F : filled held at piece ≡ joined held at piece ++ rest =
-      (rw (all, whole) (sym (append-assoc (take at held) piece rest))) in
+      let J = joined held at piece in
+      let F : filled held at piece ≡ J ++ rest = (rw (all, whole) (sym (append-assoc (take at held) piece rest))) in
       let none : 64 * wholeBlocks at piece ≡ 0 = omega arith in
-      let place : (at + length piece) % 64 ≡ length (joined held at piece) = omega (arith, joined-sized) in
-      let back : drop ((at + length piece) % 64) (filled held at piece) ≡ rest =
-      ap (λ (i : ℕ). drop i (filled held at piece)) place ∙ ap (drop (length (joined held at piece))) F ∙ drop-at (joined held at piece) rest (length (joined held at piece)) refl in
-      e ∙ F ∙ sym (ap (λ (i : ℕ). drop i (joined held at piece) ++ drop ((at + length piece) % 64) (filled held at piece)) none ∙ ap (λ (xs : List ℕ). joined held at piece ++ xs) back)
+      let back : drop (length J) (filled held at piece) ≡ rest = ap (drop (length J)) F ∙ drop-at J rest (length J) refl in
+      let over : cond (eqb at 0) held (filled held at piece) ≡ filled held at piece = rw (ne-eqb at 0 some) in
+      e ∙ F ∙ sym (ap (λ (i : ℕ). laidOver (drop i J) (cond (eqb at 0) held (filled held at piece))) none ∙ ap (laidOver J) over ∙ ap (λ (xs : List ℕ). J ++ xs) back)
 
   module _ (le : 64 - at ≤ length piece) where
     -- the block once it is full, and the tail of the piece
@@ -103,19 +107,15 @@ module _ (held : List ℕ) (at : ℕ) (piece : List ℕ) (l : length held ≡ 64
         ∙ sym joint
         ∙ sym (ap (λ (i : ℕ). chained m c k (joined held at piece) i) number ∙ ap (λ (xs : List ℕ). chained m c k xs (1 + length tail / 64)) whole)
 
-    pub full-held : (F T R out : List ℕ) → F ≡ filled held at piece → T ≡ tailAfter held at piece →
-        R ≡ drop (length T / 64 * 64) T → out ≡ filled F 0 R → out ≡ keptOf held at piece
-    full-held F T R out isF isT isR isOut =
+    pub full-held : (F T out : List ℕ) → (at ≡ 0 → ⊥) → F ≡ filled held at piece → T ≡ tailAfter held at piece → out ≡ laidOver (restOf T) F → out ≡ keptOf held at piece
+    full-held F T out some isF isT isOut =
         let T-is : T ≡ tail = isT ∙ left in
         let long : length T ≡ at + length piece - 64 = ap length T-is ∙ tail-sized in
-        let size : length R ≡ (at + length piece) % 64 = ap length isR ∙ (simp length-drop (omega arith)) in
-        let fits : length R ≤ length F = omega (arith, full-sized F isF) in
-        let place : 64 * wholeBlocks at piece ≡ length block + length T / 64 * 64 = omega (arith, block-sized) in
-        let front : R ≡ drop (64 * wholeBlocks at piece) (joined held at piece) =
-        isR ∙ ap (drop (length T / 64 * 64)) T-is ∙ sym (rw (place, whole) (drop-append-add block tail (length T / 64 * 64))) in
-        isOut ∙ from-start F R fits ∙ ap (λ (xs : List ℕ). xs ++ drop (length R) F) front
-        ∙ ap (λ (xs : List ℕ). drop (64 * wholeBlocks at piece) (joined held at piece) ++ drop (length R) xs) isF
-        ∙ ap (λ (i : ℕ). drop (64 * wholeBlocks at piece) (joined held at piece) ++ drop i (filled held at piece)) size
+        let place : 64 * wholeBlocks at piece ≡ length block + 64 * (length T / 64) = omega (arith, block-sized) in
+        let front : restOf T ≡ drop (64 * wholeBlocks at piece) (joined held at piece) =
+        ap (drop (64 * (length T / 64))) T-is ∙ sym (rw (place, whole) (drop-append-add block tail (64 * (length T / 64)))) in
+        let over : F ≡ cond (eqb at 0) held (filled held at piece) = isF ∙ sym (rw (ne-eqb at 0 some)) in
+        isOut ∙ ap (λ (xs : List ℕ). laidOver xs F) front ∙ ap (laidOver (drop (64 * wholeBlocks at piece) (joined held at piece))) over
 
     pub full-meter : {H : Type 0} (next : H → H) (h h1 h2 : H) (T : List ℕ) → T ≡ tailAfter held at piece →
         h1 ≡ next h → h2 ≡ after next h1 (length T / 64) → h2 ≡ after next h (wholeBlocks at piece)
@@ -123,6 +123,14 @@ module _ (held : List ℕ) (at : ℕ) (piece : List ℕ) (l : length held ≡ 64
         let long : length T ≡ at + length piece - 64 = ap length (isT ∙ left) ∙ tail-sized in
         let number : 1 + length T / 64 ≡ wholeBlocks at piece = omega arith in
         q ∙ ap (λ x. after next x (length T / 64)) (p ∙ sym (after-one next h)) ∙ after-after next h 1 (length T / 64) ∙ ap (after next h) number
+
+-- a piece that finds no bytes held
+module _ (m : Meaning) (c k held piece : List ℕ) where
+  pub empty-chain : (out : List ℕ) → out ≡ chained m c k piece (length piece / 64) → out ≡ chained m c k (joined held 0 piece) (wholeBlocks 0 piece)
+  empty-chain out e = e ∙ ap (λ (i : ℕ). chained m c k piece i) (sym (empty-blocks piece))
+
+  pub empty-kept : (out : List ℕ) → out ≡ laidOver (restOf piece) held → out ≡ keptOf held 0 piece
+  empty-kept out e = e ∙ ap (λ (i : ℕ). laidOver (drop (64 * i) piece) held) (sym (empty-blocks piece))
 
 pub empty-held : (held piece : List ℕ) → length held ≡ 64 → take (length piece % 64) (keptOf held 0 piece) ≡ drop (64 * (length piece / 64)) piece
 empty-held held piece l =

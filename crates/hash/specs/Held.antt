@@ -1,6 +1,8 @@
 -- What a block holds after a piece was copied into it from a place on, and what is left of the piece. Assumes nothing.
 use mathlib.Core.List.{List, _++_}
-use Prim.Native.Nat.{ℕ, _+_, _-_, _*_, _/_, _%_, min}
+use Prim.Native.Nat.{ℕ, _+_, _-_, _*_, _/_, min}
+use mathlib.Core.Bool.{cond}
+use lib.Dec.{eqb}
 use lib.ListN.{length, take, drop}
 
 -- how many bytes are copied
@@ -21,6 +23,14 @@ joined held at piece = take at held ++ piece
 abbrev pub wholeBlocks : ℕ → List ℕ → ℕ
 wholeBlocks at piece = (at + length piece) / 64
 
--- the block once their whole blocks are gone: the bytes left stand first, over the block as it was filled
+-- the bytes of a piece that fill no block
+abbrev pub restOf : List ℕ → List ℕ
+restOf piece = drop (64 * (length piece / 64)) piece
+
+-- a block into which a rest was laid: over what it held
+abbrev pub laidOver : List ℕ → List ℕ → List ℕ
+laidOver rest held = rest ++ drop (length rest) held
+
+-- the block once the whole blocks are gone. A piece that finds no bytes held is worked on where it lies; any other fills the block first
 abbrev pub keptOf : List ℕ → ℕ → List ℕ → List ℕ
-keptOf held at piece = drop (64 * wholeBlocks at piece) (joined held at piece) ++ drop ((at + length piece) % 64) (filled held at piece)
+keptOf held at piece = laidOver (drop (64 * wholeBlocks at piece) (joined held at piece)) (cond (eqb at 0) held (filled held at piece))

@@ -5,7 +5,7 @@ ghost use mathlib.Core.List.{List, _∷_, _++_};
 ghost use Prim.Native.Nat.{ℕ, _+_, _-_, _*_, _/_, _%_, _^_, _<_, _≤_};
 ghost use lib.ListN.{length, getD, set, take, drop, replicate};
 ghost use Rattle.hash.specs.Meaning.{Meaning, step, chained, blocks, eight, four, code, padding, padded, hashed, none, closing};
-ghost use Rattle.hash.specs.Held.{filled, tailAfter, joined, wholeBlocks, keptOf};
+ghost use Rattle.hash.specs.Held.{filled, tailAfter, joined, wholeBlocks, restOf, laidOver, keptOf};
 ghost use Rattle.hash.specs.Meter.{after, moved};
 ghost use Rattle.hash.specs.Words.{wordOf, words};
 
@@ -122,6 +122,23 @@ fn fill_at<'h, 'p>(held: &'h mut [u8], at: usize, piece: &'p [u8]) -> &'p [u8]
     tail
 }
 
+// The rounds of the piece's whole blocks, where they lie, and the rest of it held.
+fn absorb_whole<H: Hash>(
+    hash: &mut H,
+    chain: &mut [u32; 8],
+    added: &[u32; 8],
+    held: &mut [u8; 64],
+    piece: &[u8],
+)
+    ensures chain { λ _. ⌜ now (chain .exit) ≡ chained meaning (now (chain .entry)) (now (added .entry)) (now (piece .entry)) (length (now (piece .entry)) / 64) ⌝ }
+    ensures held { λ _. ⌜ now (held .exit) ≡ laidOver (restOf (now (piece .entry))) (now (held .entry)) ⌝ }
+    ensures meter { λ _. ⌜ now (hash .exit) ≡ after next (now (hash .entry)) (length (now (piece .entry)) / 64) ⌝ }
+{
+    chain_blocks(hash, chain, added, piece);
+    let whole = piece.len() / 64 * 64;
+    fill_at(held, 0, &piece[whole..]);
+}
+
 // Joins a piece to the first `at` bytes of the held block.
 fn absorb_at<H: Hash>(
     hash: &mut H,
@@ -136,14 +153,16 @@ fn absorb_at<H: Hash>(
     ensures held { λ _. ⌜ now (held .exit) ≡ keptOf (now (held .entry)) at (now (piece .entry)) ⌝ }
     ensures meter { λ _. ⌜ now (hash .exit) ≡ after next (now (hash .entry)) (wholeBlocks at (now (piece .entry))) ⌝ }
 {
+    if at == 0 {
+        absorb_whole(hash, chain, added, held, piece);
+        return;
+    }
     let tail = fill_at(held, at, piece);
     if piece.len() < 64 - at {
         return;
     }
     hash.round(chain, added, held);
-    chain_blocks(hash, chain, added, tail);
-    let whole = tail.len() / 64 * 64;
-    fill_at(held, 0, &tail[whole..]);
+    absorb_whole(hash, chain, added, held, tail);
 }
 
 // Joins a piece to a message of `fed` bytes, whose last `fed % 64` the block holds: the rounds of the blocks

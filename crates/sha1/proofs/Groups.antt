@@ -1,21 +1,19 @@
--- The window of SHA-1, and its round on the words that hold a chain. Assumes nothing.
-use mathlib.Core.Path.{_≡_, refl, ap, _∙_, sym}
-use mathlib.Core.List.{List, [], _∷_, _++_}
-use Prim.Native.Nat.{ℕ, zero, suc, _+_, _-_, _*_, _%_, _<_, _≤_}
+-- The steps of SHA-1, group by group, and how long its chain is. Assumes nothing.
+use mathlib.Core.Path.{_≡_, refl, _∙_, sym}
+use mathlib.Core.List.{List}
+use Prim.Native.Nat.{ℕ, suc, _+_, _*_, _≤_}
 use native.Mathlib.Omega.{arith}
-use lib.ListN.{length, getD, take, drop}
-use Rattle.std.proofs.shelf.Lists.{take-all, length-take-le, getD-take}
+use lib.ListN.{length, getD, take}
+use Rattle.std.proofs.shelf.Lists.{getD-take}
 use Rattle.hash.specs.declared.ByteOrder.the-variants.{HighFirst}
-use Rattle.hash.specs.Meaning.{step}
 use Rattle.hash.specs.Words.{words}
-use Rattle.hash.specs.Rounds.{turned, steps, group, rolling, sums, added}
+use Rattle.hash.specs.Rounds.{turned, steps, group, rolling}
 use Rattle.hash.proofs.Sums.{sums-length}
-use Rattle.hash.proofs.Window.{At, sixteen-words, begins as first, goes-on as next}
+use Rattle.hash.proofs.Window.{Near, At, sixteen-words, begins as first, goes-on as next}
 use Rattle.sha1.specs.Round.{later, schedule, mixed, shifted, one1, keyed, round1}
-use Rattle.sha1.specs.Means.{meaning1}
 
 -- the rule of the schedule looks at sixteen words
-near : (f g : ℕ → ℕ) (t u : ℕ) → ((d : ℕ) → 0 < d → d ≤ 16 → f (t - d) ≡ g (u - d)) → later f t ≡ later g u
+near : Near later
 unfolding later
 near f g t u h =
     let a = h 3 (omega arith) (omega arith) in

@@ -1,9 +1,8 @@
 // SHA-1 of FIPS 180-4 as a hash: five chain words, four added, high byte first.
 ghost use mathlib.Core.Path.{_≡_};
 ghost use mathlib.Core.List.{[], _∷_};
-ghost use Prim.Native.Nat.{ℕ, _+_, _-_, _*_, _/_, _%_, _^_, _<_, _≤_};
+ghost use Prim.Native.Nat.{ℕ, _%_};
 ghost use lib.Chars.{codes};
-ghost use lib.ListN.{length, getD, set, replicate};
 ghost use Rattle.hash.specs.Meaning.{hashed};
 ghost use Rattle.sha1.specs.Means.{meaning1, reading1, next1, strings1, stringBlock, stringOf};
 use hash::ByteOrder;

@@ -1,21 +1,18 @@
--- The window of SHA-256, and its round on the words that hold a chain. Assumes nothing.
-use mathlib.Core.Path.{_≡_, refl, ap, _∙_, sym}
-use mathlib.Core.List.{List, [], _∷_, _++_}
-use Prim.Native.Nat.{ℕ, zero, suc, _+_, _-_, _*_, _%_, _<_, _≤_}
+-- The steps of SHA-256, group by group, and how long its chain is. Assumes nothing.
+use mathlib.Core.Path.{_≡_, refl, _∙_, sym}
+use mathlib.Core.List.{List}
+use Prim.Native.Nat.{ℕ, suc, _+_, _*_, _≤_}
 use native.Mathlib.Omega.{arith}
-use lib.ListN.{length, getD, take, drop}
-use Rattle.std.proofs.shelf.Lists.{take-all}
+use lib.ListN.{length}
 use Rattle.hash.specs.declared.ByteOrder.the-variants.{HighFirst}
-use Rattle.hash.specs.Meaning.{step}
 use Rattle.hash.specs.Words.{words}
-use Rattle.hash.specs.Rounds.{turned, steps, group, rolling, sums, added}
+use Rattle.hash.specs.Rounds.{turned, steps, group, rolling}
 use Rattle.hash.proofs.Sums.{sums-length}
-use Rattle.hash.proofs.Window.{At, sixteen-words, begins as first, goes-on as next}
+use Rattle.hash.proofs.Window.{Near, At, sixteen-words, begins as first, goes-on as next}
 use Rattle.sha256.specs.Round.{later, schedule, mixed, one256, round256}
-use Rattle.sha256.specs.Means.{meaning256}
 
 -- the rule of the schedule looks at sixteen words
-near : (f g : ℕ → ℕ) (t u : ℕ) → ((d : ℕ) → 0 < d → d ≤ 16 → f (t - d) ≡ g (u - d)) → later f t ≡ later g u
+near : Near later
 unfolding later
 near f g t u h =
     let a = h 2 (omega arith) (omega arith) in

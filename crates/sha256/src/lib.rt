@@ -1,7 +1,6 @@
 // SHA-256 of FIPS 180-4 as a hash: eight chain words, none added, high byte first.
 ghost use mathlib.Core.Path.{_≡_};
-ghost use Prim.Native.Nat.{ℕ, _+_, _-_, _*_, _/_, _%_, _^_, _<_, _≤_};
-ghost use lib.ListN.{length, getD, set, replicate};
+ghost use Prim.Native.Nat.{ℕ, _%_};
 ghost use mathlib.Core.List.{[], _∷_};
 ghost use lib.Chars.{codes};
 ghost use Rattle.hash.specs.Meaning.{hashed};
@@ -55,7 +54,7 @@ pub impl Hash for Sha256 as Sha256Hash {
         order: ByteOrder::HighFirst,
     };
 
-    // the first 32 bits of the fractional parts of the square roots of the first eight primes
+    // The first 32 bits of the fractional parts of the square roots of the first eight primes.
     const FIRST: [u32; 8] = [
         0x6a09e667,
         0xbb67ae85,
@@ -67,7 +66,7 @@ pub impl Hash for Sha256 as Sha256Hash {
         0x5be0cd19,
     ];
 
-    // none: MDx-MAC, which has them, asks for added words
+    // None: only a hash with added words has such strings.
     const STRINGS: [[u8; 16]; 3] = [[0; 16]; 3];
 
     ghost meaning = { meaning256 };

@@ -2,3 +2,16 @@ pub mod Steps
 pub mod Keys
 pub mod Runs
 pub mod Same
+pub mod Counts
+pub mod Ends
+pub mod Asked
+pub mod Whole
+pub mod Takes
+pub mod Seals
+pub mod Handed
+pub mod LawParts
+pub mod LawFrame
+pub mod LawCalls
+pub mod LawWhole
+pub mod LawAlike
+pub mod LawPlaces

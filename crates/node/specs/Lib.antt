@@ -3,3 +3,11 @@ pub mod Asking
 pub mod Calls
 pub mod Stands
 pub mod Tags
+pub mod Orders
+pub mod Handing
+pub mod Taking
+pub mod Answers
+pub mod History
+pub mod Law
+pub mod Alike
+pub mod Keeps

@@ -7,8 +7,8 @@ pub struct Fields {
     pub number: u32,
     pub kind: u8,
     pub level: u8,
-    pub place: u8,
-    pub size: u8,
+    pub place: u16,
+    pub size: u16,
 }
 
 #[derive(Clone, Copy)]

@@ -12,19 +12,32 @@ ghost use Rattle.node.specs.Calls.{new, desk-new};
 ghost use Rattle.node.specs.Stands.{Stands};
 pub use desk::Desk;
 pub use desk::Fields;
+pub use handing::hand_over;
 use hash::Hash;
+pub use history::Answer;
+pub use history::Call;
+pub use history::Report;
+pub use history::run_both;
+pub use history::run_calls;
 use mac::Algorithm;
 use mac::KeyRecord;
 use mac::Run;
 use mac::free_run;
+pub use order::Order;
 use refusals::Refusal;
 use std::marker::PhantomData;
 
+mod books;
 mod compare;
 mod desk;
+mod handing;
+mod history;
 mod lanes;
+mod order;
+mod orders;
 mod slots;
 
+#[derive(Drop)]
 pub struct Node<H: Hash, A: Algorithm<H>> {
     hash: H,
     slots: [Option<KeyRecord>; 8],

@@ -49,7 +49,7 @@ same-fed (e ∷ h) (e′ ∷ h′) al l =
     ∙ both (at-lane (e .call) l) (at-lane (e′ .call) l) (accepted (e′ .answer)) (fed-bytes h l) (same-deed (e .call) (e′ .call) (al .0 .calls) l (fed-bytes h l))
     ∙ ap (fed-more (lane-deed e′ l)) (same-fed h h′ (al .1) l)
 
-module _ (f : Face) (added t own : ℕ) where
+module _ (f : Face) (added t own own′ : ℕ) where
   -- frames of one length that came to be compared have bodies of one length
   same-frame : (h h′ : List Event) (p p′ : List ℕ) (n n′ : ℕ) (a a′ : Answer) → compared a ≡ compared a′ → length p ≡ length p′ → (compared a ≡ true → length p ≡ 8 + n + t) → (compared a′ ≡ true → length p′ ≡ 8 + n′ + t) → (b : Bool) → compared a′ ≡ b → cond (compared a) (f .whole (8 + n)) 0 ≡ cond (compared a′) (f .whole (8 + n′)) 0
   same-frame h h′ p p′ n n′ a a′ q e w w′ true is =
@@ -57,7 +57,7 @@ module _ (f : Face) (added t own : ℕ) where
       ap (λ b. cond b (f .whole (8 + n)) 0) q ∙ ap (λ x. cond (compared a′) (f .whole x) 0) size
   same-frame h h′ p p′ n n′ a a′ q e w w′ false is = ap (λ b. cond b (f .whole (8 + n)) 0) (q ∙ is) ∙ sym (ap (λ b. cond b (f .whole (8 + n′)) 0) is)
 
-  same-settled : (h h′ : List Event) → ((l : ℕ) → fed-bytes h l ≡ fed-bytes h′ l) → (c c′ : Call) → AlikeCalls c c′ → (a a′ : Answer) → answer-number a ≡ answer-number a′ → Right f added t own h c a → Right f added t own h′ c′ a′ → settled f h c a ≡ settled f h′ c′ a′
+  same-settled : (h h′ : List Event) → ((l : ℕ) → fed-bytes h l ≡ fed-bytes h′ l) → (c c′ : Call) → AlikeCalls c c′ → (a a′ : Answer) → answer-number a ≡ answer-number a′ → Right f added t own h c a → Right f added t own′ h′ c′ a′ → settled f h c a ≡ settled f h′ c′ a′
   same-settled h h′ fed c c′ (installs s s′ key key′) a a′ q r r′ = ap (λ x. cond (eqb x 0) (f .setup) 0) q
   same-settled h h′ fed c c′ (clears s s′) a a′ q r r′ = refl
   same-settled h h′ fed c c′ (opens j s s′) a a′ q r r′ = refl
@@ -71,14 +71,14 @@ module _ (f : Face) (added t own : ℕ) where
   same-settled h h′ fed c c′ (carries o o′) a a′ q r r′ = refl
   same-settled h h′ fed c c′ (declines o o′) a a′ q r r′ = refl
 
-  same-sum : (h h′ : List Event) → Alike h h′ → Always (Answered f added t own) h → Always (Answered f added t own) h′ → all-settled f h ≡ all-settled f h′
+  same-sum : (h h′ : List Event) → Alike h h′ → Always (Answered f added t own) h → Always (Answered f added t own′) h′ → all-settled f h ≡ all-settled f h′
   same-sum [] [] al k k′ = refl
   same-sum [] (e′ ∷ h′) al k k′ = absurd al
   same-sum (e ∷ h) [] al k k′ = absurd al
   same-sum (e ∷ h) (e′ ∷ h′) al k k′ =
       omega (arith, same-settled h h′ (same-fed h h′ (al .1)) (e .call) (e′ .call) (al .0 .calls) (e .answer) (e′ .answer) (al .0 .answers) (k .0 .right) (k′ .0 .right), same-sum h h′ (al .1) (k .1) (k′ .1))
 
-  pub same-cost : (h h′ : List Event) → Alike h h′ → Always (Answered f added t own) h → Always (Answered f added t own) h′ → cost f h ≡ cost f h′
+  pub same-cost : (h h′ : List Event) → Alike h h′ → Always (Answered f added t own) h → Always (Answered f added t own′) h′ → cost f h ≡ cost f h′
   same-cost h h′ al k k′ =
       let o : (l : ℕ) → open-rounds f h l ≡ open-rounds f h′ l = λ l. ap (held-rounds f) (same-fed h h′ al l) in
       omega (arith, same-sum h h′ al k k′, o 0, o 1, o 2, o 3)

@@ -273,13 +273,24 @@ pub fn run_both<H: Hash + Drop, A: Algorithm<H> + Drop>(
     other_hash: H,
     t: usize,
     address: u16,
+    other_address: u16,
     calls: &[Call<'_>],
     other_calls: &[Call<'_>],
     work: &mut [u8; 64],
 ) -> Result<((Report, Vec<Answer>), (Report, Vec<Answer>)), AllocError>
     ensures { λ r. ⌜ Cases r (λ p. (H·Hash .reading hash ≡ H·Hash .reading «other_hash» → Alike (history (now (calls .entry)) (vec-items (p .0 .1))) (history (now («other_calls» .entry)) (vec-items (p .1 .1))) → p .0 .0 .reading ≡ p .1 .0 .reading)) (λ _. Unit {0}) ⌝ }
 {
-    perform_both::<H, A>(heap, hash, other_hash, t, address, calls, other_calls, work)
+    perform_both::<H, A>(
+        heap,
+        hash,
+        other_hash,
+        t,
+        address,
+        other_address,
+        calls,
+        other_calls,
+        work,
+    )
 }
 
 fn perform_both<H: Hash + Drop, A: Algorithm<H> + Drop>(
@@ -288,6 +299,7 @@ fn perform_both<H: Hash + Drop, A: Algorithm<H> + Drop>(
     other_hash: H,
     t: usize,
     address: u16,
+    other_address: u16,
     calls: &[Call<'_>],
     other_calls: &[Call<'_>],
     work: &mut [u8; 64],
@@ -295,6 +307,6 @@ fn perform_both<H: Hash + Drop, A: Algorithm<H> + Drop>(
     ensures { λ r. ⌜ Cases r (λ p. (H·Hash .reading hash ≡ H·Hash .reading «other_hash» → Alike (history (now (calls .entry)) (vec-items (p .0 .1))) (history (now («other_calls» .entry)) (vec-items (p .1 .1))) → p .0 .0 .reading ≡ p .1 .0 .reading)) (λ _. Unit {0}) ⌝ }
 {
     let one = run_calls::<H, A>(heap, hash, t, address, calls, work)?;
-    let two = run_calls::<H, A>(heap, other_hash, t, address, other_calls, work)?;
+    let two = run_calls::<H, A>(heap, other_hash, t, other_address, other_calls, work)?;
     Ok((one, two))
 }

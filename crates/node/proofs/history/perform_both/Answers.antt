@@ -14,6 +14,6 @@ returns g c = λ start al.
     let h = history (c .args .calls .now) (vec-items (c .in-Continue-one .one .1)) in
     let h′ = history (c .args .other-calls .now) (vec-items (c .in-Continue-two .two .1)) in
     one .reading
-    ∙ ap (moved (g .H·Hash .reading (c .args .hash))) (same-cost f (g .H·Hash .meaning .added) (c .args .t) (c .args .address) h h′ al (one .answered) (two .answered))
+    ∙ ap (moved (g .H·Hash .reading (c .args .hash))) (same-cost f (g .H·Hash .meaning .added) (c .args .t) (c .args .address) (c .args .other-address) h h′ al (one .answered) (two .answered))
     ∙ ap (λ x. moved x (cost f h′)) start
     ∙ sym (two .reading)

@@ -1,1 +1,1 @@
-pub mod Spend
+pub mod Ends

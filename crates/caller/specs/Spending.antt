@@ -1,25 +1,44 @@
 -- What a caller owes that spends every order. Assumes nothing.
-use Prim.Native.Nat.{_+_}
-use mathlib.Core.Path.{_≡_}
-use Rattle.std.specs.declared.option.Option.the-variants.{None}
+use Prim.Native.Nat.{ℕ}
+use mathlib.Core.List.{List}
+use mathlib.Core.Bool.{Bool, cond}
+use Rattle.std.specs.declared.option.Option.{Option}
+use Rattle.std.specs.declared.option.Option.the-variants.{Some, None}
 use Rattle.std.specs.declared.result.Result.{Result}
 use Rattle.std.specs.declared.result.Result.the-variants.{Ok, Err}
 use Rattle.refusals.specs.declared.Refusal.{Refusal}
 use Rattle.mac.specs.Face.{Face}
 use Rattle.node.specs.declared.Node.{Node}
-use Rattle.node.specs.Model.{Model}
-use Rattle.node.specs.Stands.{Stands}
+use Rattle.node.specs.declared.desk.Fields.{Fields}
+use Rattle.node.specs.declared.desk.Desk.{Desk}
+use Rattle.node.specs.declared.order.Order.{Order}
+use Rattle.node.specs.Model.{Model, After, accepted, with-desk}
+use Rattle.node.specs.Calls.{guarded, take-frame, desk-carried, desk-declined}
+use Rattle.node.specs.Stands.{Stands, Told}
 
--- one order more was taken, and one more ended; none is in hand
-pub record Spent (m m1 : Model) : Type 0 where
-  pub taken : m1 .desk .taken ≡ m .desk .taken + 1
-  pub ended : m1 .desk .carried + m1 .desk .declined ≡ m .desk .carried + m .desk .declined + 1
-  pub hand : m1 .desk .hand ≡ None
+-- the desk once the order in hand was carried, or declined
+abbrev pub desk-ended : Desk → Fields → Bool → Desk
+desk-ended d o carries = cond carries (desk-carried d o) (desk-declined d)
 
--- so it is where the frame was accepted, whatever the node stood for; a refusal leaves that as it was
-abbrev pub SpentBy : {H A X : Type 0} → (H → H) → Face → Node H A → Model → Result X Refusal → Type 0
-SpentBy next f n1 m (Ok x) = (m1 : Model) × Stands next f n1 m1 × Spent m m1
-SpentBy next f n1 m (Err e) = Stands next f n1 m
+-- a take's order is carried where `carries` says so, and declined where not; a refused take stays as it is
+module _ (carries : Fields → Bool) where
+  abbrev pub ends : After Fields → Result Fields Refusal → After Bool
+  ends a (Ok o) = accepted (carries o) (with-desk (a .model) (desk-ended (a .model .desk) o (carries o))) (a .rounds)
+  ends a (Err e) = record { answer = Err e; model = a .model; rounds = a .rounds }
 
-abbrev pub Spends : {H A X : Type 0} → (H → H) → Face → Node H A → Node H A → Result X Refusal → Type 0
-Spends next f n0 n1 r = (m : Model) → Stands next f n0 m → SpentBy next f n1 m r
+  abbrev pub spent : Face → Model → List ℕ → After Bool
+  spent f m frame = let a = guarded m (take-frame f m frame) in ends a (a .answer)
+
+-- the answer; an order that came back is none
+abbrev pub plain : {X : Type 0} → Result X (Refusal × Option Order) → Result X Refusal
+plain (Ok x) = Ok x
+plain (Err (e, back)) = Err e
+
+abbrev pub NoneBack : {X : Type 0} → Result X (Refusal × Option Order) → Type 0
+NoneBack (Ok x) = Unit {0}
+NoneBack (Err (e, None)) = Unit {0}
+NoneBack (Err (e, Some back)) = ⊥
+
+-- So it is whatever the node stood for; and the end of an order in hand is never refused.
+abbrev pub Spends : {H A X : Type 0} → (H → H) → Face → Node H A → Node H A → Result X (Refusal × Option Order) → (Model → After X) → Type 0
+Spends next f n0 n1 r call = (m : Model) → Stands next f n0 m → Told next f n0 n1 (plain r) (call m) × NoneBack r

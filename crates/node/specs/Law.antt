@@ -25,7 +25,7 @@ use Rattle.node.specs.declared.history.Report.{Report}
 use Rattle.node.specs.Asking.{makingQ, installQ, clearQ, openQ, feedQ, dropQ, finishQ, judgeQ, sealQ, frameQ, endQ}
 use Rattle.node.specs.Calls.{order-of}
 use Rattle.node.specs.Stands.{in-hand}
-use Rattle.node.specs.History.{Event, refusal-in, accepted, compared, key-in, Runs, fed-bytes, order-held, numbers-taken, numbers-sealed, newest, count, is-take, is-carry, is-decline, level-in}
+use Rattle.node.specs.History.{Event, history, refusal-in, accepted, compared, key-in, Runs, fed-bytes, order-held, numbers-taken, numbers-sealed, newest, count, is-take, is-carry, is-decline, level-in}
 
 -- P of each event and what came before it
 abbrev pub Always : (List Event → Event → Type 0) → List Event → Type 0
@@ -167,3 +167,7 @@ module _ (f : Face) where
     pub orders : r .taken ≡ r .carried + r .declined + in-hand (order-held h)
     pub level : r .level ≡ level-in h
     pub reading : r .reading ≡ moved start (cost h)
+
+-- every call has its answer, and the law holds of them
+abbrev pub Ran : Face → ℕ → ℕ → ℕ → ℕ → List Call → List Answer → Report → Type 0
+Ran f added t own start calls answers r = (length answers ≡ length calls) × Law f added t own start (history calls answers) r

@@ -2,14 +2,13 @@
 ghost use mathlib.Core.Path.{_≡_};
 ghost use mathlib.Core.List.{List};
 ghost use Prim.Native.Nat.{ℕ, min};
-ghost use lib.ListN.{length};
 ghost use Rattle.std.specs.Results.{Cases};
 ghost use Rattle.std.specs.Of.Vec.{vec-items};
 ghost use Rattle.node.specs.Model.{Model};
 ghost use Rattle.node.specs.Calls.{guarded, finish, tag-at, seal, sealed-frame};
 ghost use Rattle.node.specs.Stands.{Stands, Obeys};
 ghost use Rattle.node.specs.History.{history};
-ghost use Rattle.node.specs.Law.{Law};
+ghost use Rattle.node.specs.Law.{Ran};
 ghost use Rattle.node.specs.Alike.{Alike};
 ghost use Rattle.node.specs.Keeps.{GoesOn, Begins};
 ghost use Rattle.node.specs.Answers.{done-of, tag-of, verdict-of, frame-of, order-from, end-of};
@@ -234,7 +233,7 @@ pub fn run_calls<H: Hash + Drop, A: Algorithm<H> + Drop>(
     calls: &[Call<'_>],
     work: &mut [u8; 64],
 ) -> Result<(Report, Vec<Answer>), AllocError>
-    ensures { λ r. ⌜ Cases r (λ p. (length (vec-items (p .1)) ≡ length (now (calls .entry))) × Law (A·Algorithm .face) (H·Hash .meaning .added) t address (H·Hash .reading hash) (history (now (calls .entry)) (vec-items (p .1))) (p .0)) (λ _. Unit {0}) ⌝ }
+    ensures { λ r. ⌜ Cases r (λ p. Ran (A·Algorithm .face) (H·Hash .meaning .added) t address (H·Hash .reading hash) (now (calls .entry)) (vec-items (p .1)) (p .0)) (λ _. Unit {0}) ⌝ }
 {
     perform_all::<H, A>(heap, hash, t, address, calls, work)
 }
@@ -247,7 +246,7 @@ fn perform_all<H: Hash + Drop, A: Algorithm<H> + Drop>(
     calls: &[Call<'_>],
     work: &mut [u8; 64],
 ) -> Result<(Report, Vec<Answer>), AllocError>
-    ensures { λ r. ⌜ Cases r (λ p. (length (vec-items (p .1)) ≡ length (now (calls .entry))) × Law (A·Algorithm .face) (H·Hash .meaning .added) t address (H·Hash .reading hash) (history (now (calls .entry)) (vec-items (p .1))) (p .0)) (λ _. Unit {0}) ⌝ }
+    ensures { λ r. ⌜ Cases r (λ p. Ran (A·Algorithm .face) (H·Hash .meaning .added) t address (H·Hash .reading hash) (now (calls .entry)) (vec-items (p .1)) (p .0)) (λ _. Unit {0}) ⌝ }
 {
     let mut answers = Vec::with_capacity(heap, calls.len())?;
     let mut node: Node<H, A> = Node::make(hash, t, address);
@@ -278,7 +277,9 @@ pub fn run_both<H: Hash + Drop, A: Algorithm<H> + Drop>(
     other_calls: &[Call<'_>],
     work: &mut [u8; 64],
 ) -> Result<((Report, Vec<Answer>), (Report, Vec<Answer>)), AllocError>
-    ensures { λ r. ⌜ Cases r (λ p. (H·Hash .reading hash ≡ H·Hash .reading «other_hash» → Alike (history (now (calls .entry)) (vec-items (p .0 .1))) (history (now («other_calls» .entry)) (vec-items (p .1 .1))) → p .0 .0 .reading ≡ p .1 .0 .reading)) (λ _. Unit {0}) ⌝ }
+    ensures one { λ r. ⌜ Cases r (λ p. Ran (A·Algorithm .face) (H·Hash .meaning .added) t address (H·Hash .reading hash) (now (calls .entry)) (vec-items (p .0 .1)) (p .0 .0)) (λ _. Unit {0}) ⌝ }
+    ensures other { λ r. ⌜ Cases r (λ p. Ran (A·Algorithm .face) (H·Hash .meaning .added) t «other_address» (H·Hash .reading «other_hash») (now («other_calls» .entry)) (vec-items (p .1 .1)) (p .1 .0)) (λ _. Unit {0}) ⌝ }
+    ensures alike { λ r. ⌜ Cases r (λ p. (H·Hash .reading hash ≡ H·Hash .reading «other_hash» → Alike (history (now (calls .entry)) (vec-items (p .0 .1))) (history (now («other_calls» .entry)) (vec-items (p .1 .1))) → p .0 .0 .reading ≡ p .1 .0 .reading)) (λ _. Unit {0}) ⌝ }
 {
     perform_both::<H, A>(
         heap,
@@ -304,7 +305,9 @@ fn perform_both<H: Hash + Drop, A: Algorithm<H> + Drop>(
     other_calls: &[Call<'_>],
     work: &mut [u8; 64],
 ) -> Result<((Report, Vec<Answer>), (Report, Vec<Answer>)), AllocError>
-    ensures { λ r. ⌜ Cases r (λ p. (H·Hash .reading hash ≡ H·Hash .reading «other_hash» → Alike (history (now (calls .entry)) (vec-items (p .0 .1))) (history (now («other_calls» .entry)) (vec-items (p .1 .1))) → p .0 .0 .reading ≡ p .1 .0 .reading)) (λ _. Unit {0}) ⌝ }
+    ensures one { λ r. ⌜ Cases r (λ p. Ran (A·Algorithm .face) (H·Hash .meaning .added) t address (H·Hash .reading hash) (now (calls .entry)) (vec-items (p .0 .1)) (p .0 .0)) (λ _. Unit {0}) ⌝ }
+    ensures other { λ r. ⌜ Cases r (λ p. Ran (A·Algorithm .face) (H·Hash .meaning .added) t «other_address» (H·Hash .reading «other_hash») (now («other_calls» .entry)) (vec-items (p .1 .1)) (p .1 .0)) (λ _. Unit {0}) ⌝ }
+    ensures alike { λ r. ⌜ Cases r (λ p. (H·Hash .reading hash ≡ H·Hash .reading «other_hash» → Alike (history (now (calls .entry)) (vec-items (p .0 .1))) (history (now («other_calls» .entry)) (vec-items (p .1 .1))) → p .0 .0 .reading ≡ p .1 .0 .reading)) (λ _. Unit {0}) ⌝ }
 {
     let one = run_calls::<H, A>(heap, hash, t, address, calls, work)?;
     let two = run_calls::<H, A>(heap, other_hash, t, other_address, other_calls, work)?;

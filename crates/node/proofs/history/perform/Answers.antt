@@ -1,5 +1,4 @@
-use mathlib.Core.Path.{_≡_, refl, subst}
-use native.Mathlib.Omega.{arith}
+use mathlib.Core.Path.{subst}
 use borrow.Author.Needs.{needs}
 use Prim.Native.Nat.{_<_}
 use denote.Ref.{now}

@@ -1,4 +1,3 @@
 pub mod Kinds
 pub mod Asked
 pub mod Tag
-pub mod Cases

@@ -8,7 +8,6 @@ ghost use lib.ListN.{length, take, drop, replicate};
 ghost use Rattle.std.specs.declared.option.Option.the-variants.{None};
 ghost use Rattle.refusals.specs.Questions.{firstNo};
 ghost use Rattle.mac.specs.Promises.{wiped};
-ghost use Rattle.tags.specs.Cases.{WorkedCases};
 ghost use Rattle.tags.specs.Kinds.{hashBy, algorithmBy, meaningOf, faceOf};
 ghost use Rattle.tags.specs.Asked.{questions, asked, written, Long};
 ghost use Rattle.tags.specs.Tag.{answeredBy, tagBy, answered, tagOf};
@@ -218,17 +217,4 @@ pub fn make_tag(
     let algorithm = AlgorithmKind::by_number(algorithm);
     let hash = HashKind::by_number(hash);
     make_by(algorithm, hash, t, key, message, out, guard.block)
-}
-
-fn work_cases()
-    ensures { λ _. ⌜ WorkedCases ⌝ }
-{}
-
-// The worked cases of the rules hold, all of them: block counts and the repeated key.
-pub fn worked_cases() -> bool
-    ensures cases { λ _. ⌜ WorkedCases ⌝ }
-    ensures answer { λ r. ⌜ r ≡ true ⌝ }
-{
-    work_cases();
-    true
 }

@@ -16,7 +16,7 @@ use std::error::AnyError;
 use std::io;
 
 // The key of the street, which every node has in slot 2.
-const KEY: [u8; 16] = *b"lamps of Mill St";
+static KEY: [u8; 16] = *b"lamps of Mill St";
 
 const SLOT: usize = 2;
 
@@ -31,6 +31,42 @@ const SECOND_LAMP: u16 = 12;
 
 const EVERYBODY: u16 = 65535;
 
+// A call, with the words that it is told in.
+type Step<'a> = (&'a str, Call<'a>);
+
+fn install<'a>() -> Call<'a> {
+    Call::Install {
+        slot: SLOT,
+        key: &KEY,
+    }
+}
+
+fn seal<'a>(slot: usize, kind: u8, body: &'a [u8], address: u16) -> Call<'a> {
+    Call::Seal {
+        slot,
+        kind,
+        body,
+        address,
+        room: 295,
+    }
+}
+
+fn open<'a>(lane: usize) -> Call<'a> {
+    Call::Open { lane, slot: SLOT }
+}
+
+fn hear<'a>(lane: usize, piece: &'a [u8]) -> Call<'a> {
+    Call::Feed { lane, piece }
+}
+
+fn judge<'a>(lane: usize, tag: &'a [u8]) -> Call<'a> {
+    Call::Judge { lane, tag }
+}
+
+fn take<'a>(frame: &'a [u8]) -> Call<'a> {
+    Call::Take { frame }
+}
+
 fn level_order(number: u32, level: u8) -> Fields {
     Fields {
         slot: 2,
@@ -42,27 +78,41 @@ fn level_order(number: u32, level: u8) -> Fields {
     }
 }
 
-// A list of calls on a new node, each with the words that it is told in.
+fn sheet_order(number: u32, size: u16) -> Fields {
+    Fields {
+        slot: 2,
+        number,
+        kind: 1,
+        level: 0,
+        place: 8,
+        size,
+    }
+}
+
+// A list of calls on a new node, each told with its answer.
 fn run(
     rt: &LibcRuntime,
     name: &str,
     address: u16,
-    calls: &[Call<'_>],
-    words: &[&str],
+    steps: &[Step<'_>],
 ) -> Result<Vec<Answer>, AnyError> {
     let mut work = [0; 64];
     let heap = rt.alloc();
+    let mut calls = Vec::new(heap);
+    for step in steps {
+        calls.push(step.1)?;
+    }
     println!(rt, "{name}, address {address}")?;
     let (report, answers) = run_calls::<Sha256, Hmac>(
         heap,
         Sha256::new(),
         TAG,
         address,
-        calls,
+        &calls,
         &mut work,
     )?;
-    for (what, answer) in words.iter().zip(answers.iter()) {
-        tell(rt, what, answer)?;
+    for (step, answer) in steps.iter().zip(answers.iter()) {
+        tell(rt, step.0, answer)?;
     }
     close(rt, report)?;
     Ok(answers)
@@ -113,56 +163,30 @@ fn frame_at(heap: Global, answers: &Vec<Answer>, i: usize) -> Result<Vec<u8>, An
 }
 
 fn cabinet(rt: &LibcRuntime) -> Result<Vec<Answer>, AnyError> {
-    let calls = [
-        Call::Install {
-            slot: SLOT,
-            key: &KEY,
-        },
-        Call::Seal {
-            slot: SLOT,
-            kind: 0,
-            body: &[40],
-            address: FIRST_LAMP,
-            room: 295,
-        },
-        Call::Seal {
-            slot: SLOT,
-            kind: 1,
-            body: b"fog until nine",
-            address: EVERYBODY,
-            room: 295,
-        },
-        Call::Seal {
-            slot: SLOT,
-            kind: 0,
-            body: &[70],
-            address: SECOND_LAMP,
-            room: 295,
-        },
-        Call::Seal {
-            slot: SLOT,
-            kind: 0,
-            body: &[101],
-            address: SECOND_LAMP,
-            room: 295,
-        },
-        Call::Seal {
-            slot: 3,
-            kind: 0,
-            body: &[0],
-            address: SECOND_LAMP,
-            room: 295,
-        },
+    let steps = [
+        ("installs the street's key in slot 2", install()),
+        (
+            "seals level 40 for lamp 11",
+            seal(SLOT, 0, &[40], FIRST_LAMP),
+        ),
+        (
+            "seals a sheet for everybody",
+            seal(SLOT, 1, b"fog until nine", EVERYBODY),
+        ),
+        (
+            "seals level 70 for lamp 12",
+            seal(SLOT, 0, &[70], SECOND_LAMP),
+        ),
+        (
+            "seals level 101, which is too high",
+            seal(SLOT, 0, &[101], SECOND_LAMP),
+        ),
+        (
+            "seals with slot 3, which has no key",
+            seal(3, 0, &[0], SECOND_LAMP),
+        ),
     ];
-    let words = [
-        "installs the street's key in slot 2",
-        "seals level 40 for lamp 11",
-        "seals a sheet for everybody",
-        "seals level 70 for lamp 12",
-        "seals level 101, which is too high",
-        "seals with slot 3, which has no key",
-    ];
-    run(rt, "The cabinet", CABINET, &calls, &words)
+    run(rt, "The cabinet", CABINET, &steps)
 }
 
 // Four frames come in pieces, each in a lane of its own and all at once.
@@ -176,119 +200,70 @@ fn first_lamp<'a>(
     if level.len() < 9 || sheet.len() < 22 || damaged.len() < 22 || other.len() < 9 {
         return Err("a short frame".into());
     }
-    let calls = [
-        Call::Install {
-            slot: SLOT,
-            key: &KEY,
-        },
-        Call::Open {
-            lane: 0,
-            slot: SLOT,
-        },
-        Call::Open {
-            lane: 1,
-            slot: SLOT,
-        },
-        Call::Open {
-            lane: 2,
-            slot: SLOT,
-        },
-        Call::Open {
-            lane: 3,
-            slot: SLOT,
-        },
-        Call::Feed {
-            lane: 0,
-            piece: &level[0..3],
-        },
-        Call::Feed {
-            lane: 1,
-            piece: &sheet[0..11],
-        },
-        Call::Feed {
-            lane: 2,
-            piece: &damaged[0..1],
-        },
-        Call::Feed {
-            lane: 0,
-            piece: &level[3..9],
-        },
-        Call::Feed {
-            lane: 3,
-            piece: &other[0..9],
-        },
-        Call::Feed {
-            lane: 2,
-            piece: &damaged[1..22],
-        },
-        Call::Feed {
-            lane: 1,
-            piece: &sheet[11..22],
-        },
-        Call::Judge {
-            lane: 0,
-            tag: &level[9..],
-        },
-        Call::Judge {
-            lane: 1,
-            tag: &sheet[22..],
-        },
-        Call::Judge {
-            lane: 2,
-            tag: &damaged[22..],
-        },
-        Call::Drop { lane: 3 },
-        Call::Take { frame: level },
-        Call::Take { frame: sheet },
-        Call::Carry {
-            order: level_order(1, 40),
-        },
-        Call::Take { frame: level },
-        Call::Take { frame: damaged },
-        Call::Take { frame: other },
-        Call::Take { frame: sheet },
-        Call::Decline {
-            order: level_order(1, 40),
-        },
-        Call::Decline {
-            order: Fields {
-                slot: 2,
-                number: 2,
-                kind: 1,
-                level: 0,
-                place: 8,
-                size: 14,
+    let steps = [
+        ("installs the street's key in slot 2", install()),
+        ("opens lane 0", open(0)),
+        ("opens lane 1", open(1)),
+        ("opens lane 2", open(2)),
+        ("opens lane 3", open(3)),
+        (
+            "hears 3 bytes of the level in lane 0",
+            hear(0, &level[0..3]),
+        ),
+        (
+            "hears 11 bytes of the sheet in lane 1",
+            hear(1, &sheet[0..11]),
+        ),
+        (
+            "hears 1 byte of a damaged sheet in lane 2",
+            hear(2, &damaged[0..1]),
+        ),
+        (
+            "hears the rest of the level in lane 0",
+            hear(0, &level[3..9]),
+        ),
+        (
+            "hears the other lamp's level in lane 3",
+            hear(3, &other[0..9]),
+        ),
+        (
+            "hears the rest of the damaged sheet in lane 2",
+            hear(2, &damaged[1..22]),
+        ),
+        (
+            "hears the rest of the sheet in lane 1",
+            hear(1, &sheet[11..22]),
+        ),
+        ("judges lane 0", judge(0, &level[9..])),
+        ("judges lane 1", judge(1, &sheet[22..])),
+        ("judges lane 2", judge(2, &damaged[22..])),
+        ("drops lane 3", Call::Drop { lane: 3 }),
+        ("takes the level", take(level)),
+        ("takes the sheet with an order still in hand", take(sheet)),
+        (
+            "carries the level",
+            Call::Carry {
+                order: level_order(1, 40),
             },
-        },
+        ),
+        ("takes the level a second time", take(level)),
+        ("takes the damaged sheet", take(damaged)),
+        ("takes the other lamp's level", take(other)),
+        ("takes the sheet", take(sheet)),
+        (
+            "declines an order that is not the one in hand",
+            Call::Decline {
+                order: level_order(1, 40),
+            },
+        ),
+        (
+            "declines the sheet",
+            Call::Decline {
+                order: sheet_order(2, 14),
+            },
+        ),
     ];
-    let words = [
-        "installs the street's key in slot 2",
-        "opens lane 0",
-        "opens lane 1",
-        "opens lane 2",
-        "opens lane 3",
-        "hears 3 bytes of the level in lane 0",
-        "hears 11 bytes of the sheet in lane 1",
-        "hears 1 byte of a damaged sheet in lane 2",
-        "hears the rest of the level in lane 0",
-        "hears the other lamp's level in lane 3",
-        "hears the rest of the damaged sheet in lane 2",
-        "hears the rest of the sheet in lane 1",
-        "judges lane 0",
-        "judges lane 1",
-        "judges lane 2",
-        "drops lane 3",
-        "takes the level",
-        "takes the sheet with an order still in hand",
-        "carries the level",
-        "takes the level a second time",
-        "takes the damaged sheet",
-        "takes the other lamp's level",
-        "takes the sheet",
-        "declines an order that is not the one in hand",
-        "declines the sheet",
-    ];
-    run(rt, "The first lamp", FIRST_LAMP, &calls, &words)
+    run(rt, "The first lamp", FIRST_LAMP, &steps)
 }
 
 fn second_lamp<'a>(
@@ -296,26 +271,19 @@ fn second_lamp<'a>(
     level: &'a [u8],
     other: &'a [u8],
 ) -> Result<Vec<Answer>, AnyError> {
-    let calls = [
-        Call::Take { frame: level },
-        Call::Install {
-            slot: SLOT,
-            key: &KEY,
-        },
-        Call::Take { frame: other },
-        Call::Take { frame: level },
-        Call::Carry {
-            order: level_order(3, 70),
-        },
+    let steps = [
+        ("takes its level without a key", take(level)),
+        ("installs the street's key in slot 2", install()),
+        ("takes the first lamp's level", take(other)),
+        ("takes its level", take(level)),
+        (
+            "carries the level",
+            Call::Carry {
+                order: level_order(3, 70),
+            },
+        ),
     ];
-    let words = [
-        "takes its level without a key",
-        "installs the street's key in slot 2",
-        "takes the first lamp's level",
-        "takes its level",
-        "carries the level",
-    ];
-    run(rt, "The second lamp", SECOND_LAMP, &calls, &words)
+    run(rt, "The second lamp", SECOND_LAMP, &steps)
 }
 
 // The sheet with one letter of it changed on the way.

@@ -1,5 +1,7 @@
 // A caller of the node that spends every order that it takes. Were an end refused, the order would come back with the
 // refusal; that none is, is proved.
+#![tactic(auto)]
+
 ghost use Rattle.std.specs.Prelude.{◌≡◌, if◌then◌else◌, nat_le};
 ghost use Rattle.mac.specs.Promises.{wiped};
 ghost use Rattle.node.specs.Calls.{guarded, carry, decline};

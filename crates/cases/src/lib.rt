@@ -1,4 +1,6 @@
 // The worked cases of the rules, by the definitions that the contracts of hash, algorithms and frames cite.
+#![tactic(auto)]
+
 ghost use Rattle.std.specs.Prelude.{◌≡◌, true};
 ghost use Rattle.cases.specs.Cases.{WorkedCases};
 

@@ -1,5 +1,7 @@
 // What C and Rust call: the plain hash and the one-shot tag, by numbers and byte slices. Every function answers 0, or the number
 // of the refusal. `include/kallqono.h` is the manual.
+#![tactic(auto)]
+
 ghost use Rattle.std.specs.Prelude.{◌≡◌, length};
 ghost use Rattle.mac.specs.Promises.{wiped};
 ghost use Rattle.tags.specs.Asked.{written};

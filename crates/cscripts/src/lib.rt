@@ -1,5 +1,7 @@
 // A node from C: a script of calls, as lines of text, and the replies. It needs a heap, so it stands apart from what runs on a lamp.
 // `include/kallqono_script.h` is the manual.
+#![tactic(auto)]
+
 ghost use Rattle.std.specs.Prelude.{◌≡◌, ◌++◌, length, drop, if◌then◌else◌, ◌≢◌, nat_le};
 ghost use Rattle.refusals.specs.declared.Refusal.TheVariants.{Room};
 ghost use Rattle.refusals.specs.Numbers.{number};

@@ -1,5 +1,7 @@
 // The lamp has 4,096 bytes in all: node, work block, the longest frame and the stack of the deepest call. The sizes below are
 // those of 64-bit words; a lamp's words are no wider.
+#![tactic(auto)]
+
 #[cfg(test)]
 mod tests {
     use hmac::Hmac;

@@ -4,6 +4,8 @@
 //
 // The reader lends: a record's body is a part of the frame that was read, and nothing is copied. It asks its questions in a fixed order, and the
 // first that is answered no is the refusal. The writer lays header and body at the front of a buffer, where the tag then follows.
+#![tactic(auto)]
+
 ghost use Rattle.std.specs.Prelude.{◌≡◌, ◌+◌, ◌/◌, ◌%◌, ◌≤◌, length, take, drop, IfOk};
 ghost use Rattle.refusals.specs.Questions.{first_refusal};
 ghost use Rattle.frame.specs.Layout.{header_of, signed_part, tag_in, Fitting};

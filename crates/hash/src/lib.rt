@@ -1,5 +1,7 @@
 // One interface for every hash: the round, the meter, and what the code above needs to know.
 // Padding and block chaining stand here once, for all of them.
+#![tactic(auto)]
+
 ghost use Rattle.std.specs.Prelude.{◌≡◌, ℕ, ◌+◌, ◌-◌, ◌*◌, ◌/◌, ◌%◌, ◌^◌, ◌<◌, ◌≤◌, List, ◌∷◌, ◌++◌, length, take, drop, replicate, slice_index};
 ghost use Rattle.hash.specs.Meaning.{Meaning, step, chained, blocks, eight, four, code, padding, padded, hashed, none, closing};
 ghost use Rattle.hash.specs.Held.{filled, tail_after, joined, whole_blocks, rest_of, laid_over, kept_of};

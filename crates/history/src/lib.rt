@@ -1,6 +1,8 @@
 // Any list of calls on one new node, with an answer for each, and the law that such a list obeys: what each call answers, which
 // numbers rise, how orders are counted and what the meter reads, told by the list of calls and answers alone (specs/).
 // It runs on the host: what it gives back is a `Vec`.
+#![tactic(auto)]
+
 ghost use Rattle.std.specs.Prelude.{◌≡◌, ◌-◌, ◌≤◌, length, IfOk};
 ghost use Rattle.mac.specs.Promises.{wiped};
 ghost use Rattle.history.specs.History.{history};

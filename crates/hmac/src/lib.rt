@@ -1,5 +1,7 @@
 // HMAC over any hash: the hash of the key under one pad and the hash of the key under another and the message.
 // A key's record keeps the chains after the two padded keys, so that a message costs only its own blocks.
+#![tactic(auto)]
+
 ghost use Rattle.std.specs.Prelude.{◌≡◌, ℕ, ◌+◌, ◌-◌, ◌*◌, ◌/◌, ◌%◌, ◌^◌, ◌<◌, ◌≤◌, true, List, [], ◌++◌, length, replicate};
 ghost use Rattle.hash.specs.Meaning.{blocks};
 ghost use Rattle.hash.specs.Meter.{after};

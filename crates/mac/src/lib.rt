@@ -1,6 +1,8 @@
 // One interface for every MAC algorithm over every hash. A key is expanded once into a record; a run takes a record's
 // key and is fed the message piece by piece; its end gives the tag. Records and runs are plain words and bytes, laid
 // out alike for all algorithms, and the work block in which key material is handled is lent by the caller.
+#![tactic(auto)]
+
 ghost use Rattle.std.specs.Prelude.{◌≡◌, ℕ, ◌+◌, ◌-◌, ◌*◌, ◌/◌, ◌%◌, ◌^◌, ◌<◌, ◌≤◌, true, List, [], ◌++◌, length, take, drop, replicate};
 ghost use Rattle.mac.specs.Face.{Face, Laws, Limits, within, free, blank, started};
 ghost use Rattle.mac.specs.Promises.{wiped, Expanded, Added, Closed, Ended};

@@ -1,5 +1,7 @@
 // MDx-MAC and the algorithm for short strings, over any hash with added words. Both make three parts of a key, K0, K1
 // and K2, and run the hash's round from K0 with the added words K1; they differ in the blocks that they run over.
+#![tactic(auto)]
+
 ghost use Rattle.std.specs.Prelude.{◌≡◌, ℕ, ◌+◌, ◌-◌, ◌*◌, ◌/◌, ◌%◌, ◌<◌, ◌≤◌, List, [], ◌++◌, length};
 ghost use Rattle.mac.specs.Promises.{Closed};
 ghost use Rattle.mdxmac.specs.Mdx.{mdx_face, mdx_laws, mdx_row};

@@ -1,6 +1,8 @@
 // A lamp node over any hash and any algorithm: eight key slots, four lanes in which tags are made piece by piece, and the
 // lamp's books. Every call takes any input and does its work or gives the first refusal that fits; a refusal leaves the
 // node as found. What a call owes is said by what the node stands for (specs/).
+#![tactic(auto)]
+
 ghost use Rattle.std.specs.Prelude.{◌≡◌, ℕ, List, None};
 ghost use Rattle.refusals.specs.Questions.{first_refusal};
 ghost use Rattle.node.specs.Model.{Model};

@@ -1,5 +1,7 @@
 // Reads a script from standard input, a node line and calls on that node, one to a line, and writes a reply to each line to
 // standard output. What a line asks for and what is replied is the matter of `scripts`.
+#![tactic(auto)]
+
 use scripts::answer_script;
 use std::io;
 use std::io::{Read, Write};

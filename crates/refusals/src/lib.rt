@@ -1,5 +1,7 @@
 // Why a call was refused. Every call asks its questions in a fixed order; the first that is answered no is the refusal,
 // and the question's number is all that comes back.
+#![tactic(auto)]
+
 ghost use Rattle.std.specs.Prelude.{◌≡◌};
 ghost use Rattle.refusals.specs.Numbers.{number};
 

@@ -1,6 +1,8 @@
 // Requests for tags, one to a line, and the replies to them. A line gives an algorithm, a hash, the tag's length, a key
 // and a message; the reply has the tag and the rounds that it took, or the number of the refusal, or `?` for a line of
 // another form. A whole input comes in chunks, which may be cut anywhere: `Lines` holds the line that is not yet ended.
+#![tactic(auto)]
+
 ghost use Rattle.std.specs.Prelude.{◌≡◌, ◌+◌, ◌≤◌, true, [], ◌++◌, is_ok, IfOk, if◌then◌else◌, vec_len, vec_capacity, OnOk};
 ghost use Rattle.std.specs.List.{flat_map};
 ghost use Rattle.requests.specs.Input.{replies, transcript, unended};

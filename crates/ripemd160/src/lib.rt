@@ -1,5 +1,7 @@
 // RIPEMD-160: its round and its meter, as one of the hashes of crate `hash`.
 // A round runs two lines of eighty steps over the same block, and joins their ends with the old chain.
+#![tactic(auto)]
+
 ghost use Rattle.std.specs.Prelude.{◌≡◌, true, ◌++◌, take, drop};
 ghost use Rattle.hash.specs.Meaning.{step};
 ghost use Rattle.hash.specs.Words.{blank};

@@ -1,5 +1,7 @@
 // Scripts that `nodeline` cannot be run on beside its own: refused makings, inputs without a node, and each algorithm over each
 // hash.
+#![tactic(auto)]
+
 #[cfg(test)]
 mod tests {
     use scripts::answer_script;

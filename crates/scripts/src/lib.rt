@@ -1,6 +1,8 @@
 // A lamp node that is driven by lines of text: a node line makes it, each line after that is a call, and each line gets a
 // reply. The lines become commands, the calls among them are run as one list, and the replies are written from the answers
 // to the calls and from the reports on the node between them.
+#![tactic(auto)]
+
 ghost use Rattle.std.specs.Prelude.{IfOk};
 ghost use Rattle.scripts.specs.Play.{Replied};
 

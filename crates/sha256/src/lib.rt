@@ -1,4 +1,6 @@
 // SHA-256 of FIPS 180-4 as a hash: eight chain words, none added, high byte first.
+#![tactic(auto)]
+
 ghost use Rattle.std.specs.Prelude.{◌≡◌, ℕ, ◌%◌, [], ◌∷◌, codes};
 ghost use Rattle.hash.specs.Meaning.{hashed};
 ghost use Rattle.sha256.specs.Primes.{prime, CubeRoot};

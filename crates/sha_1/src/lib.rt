@@ -1,4 +1,6 @@
 // SHA-1 of FIPS 180-4 as a hash: five chain words, four added, high byte first.
+#![tactic(auto)]
+
 ghost use Rattle.std.specs.Prelude.{◌≡◌, ℕ, ◌%◌, [], ◌∷◌, codes};
 ghost use Rattle.hash.specs.Meaning.{hashed};
 ghost use Rattle.sha_1.specs.Means.{meaning1, reading1, next1, strings1, block_of_string, string_of};

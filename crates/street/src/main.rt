@@ -2,6 +2,8 @@
 // once, check them, and take, carry or decline their orders. One frame is damaged, one comes twice and one is for
 // somebody else. Each node runs through the call that performs any list of calls on a new node, so what is proved of
 // that is what is seen here.
+#![tactic(auto)]
+
 use anyhow::anyhow;
 use history::log_calls;
 use hmac::Hmac;

@@ -1,6 +1,8 @@
 // Reads requests for tags from standard input, one to a line, and writes a reply to each to standard output. What a line
 // asks for and what is replied is the matter of `requests`; here input and output go by large pieces. A read takes what
 // is there, and its replies go out at once.
+#![tactic(auto)]
+
 use requests::Lines;
 use std::io;
 use std::io::{Read, Write};

@@ -1,5 +1,7 @@
 // The one-shot call: the tag of a key and a message, by the numbers of algorithm and hash. The questions are asked
 // in their order before anything is worked out, and the first no is the refusal.
+#![tactic(auto)]
+
 ghost use Rattle.std.specs.Prelude.{◌≡◌, ℕ, ◌+◌, ◌-◌, ◌*◌, ◌<◌, ◌≤◌, true, List, [], ◌++◌, length, replicate, None};
 ghost use Rattle.refusals.specs.Questions.{first_refusal};
 ghost use Rattle.mac.specs.Promises.{wiped};

@@ -1,6 +1,8 @@
 // Runs published examples: reads rows on standard input, works each one out, and prints each row that disagrees and
 // how many agree. A tag is made twice, by the one-shot call and by a run that is fed the message in pieces. A line that
 // is no row ends the program with an error.
+#![tactic(auto)]
+
 ghost use Rattle.std.specs.Prelude.{◌≡◌, true, ◌++◌, length, drop};
 ghost use Rattle.hash.specs.Meaning.{hashed};
 ghost use Rattle.tags.specs.Tag.{tag_of};

@@ -83,8 +83,8 @@ fn block_at(bytes: &[u8], at: usize) -> &[u8; 64]
 
 // One round for each whole block of `bytes`, in their order.
 fn fold_blocks<H: Hash>(hash: &mut H, chain: &mut [u32; 8], added: &[u32; 8], bytes: &[u8])
-    ensures chain { chain.new ≡ chained meaning chain.old added.now bytes.now (length bytes.now / 64) }
-    ensures meter { hash.new ≡ after next hash.old (length bytes.now / 64) }
+    ensures chain { chain.new ≡ chained H.meaning chain.old added.now bytes.now (length bytes.now / 64) }
+    ensures meter { hash.new ≡ after H.next hash.old (length bytes.now / 64) }
 {
     for i in 0..bytes.len() / 64 {
         hash.round(chain, added, block_at(bytes, 64 * i));
@@ -93,8 +93,8 @@ fn fold_blocks<H: Hash>(hash: &mut H, chain: &mut [u32; 8], added: &[u32; 8], by
 
 // The rounds of the whole blocks of `bytes`.
 pub fn chain_blocks<H: Hash>(hash: &mut H, chain: &mut [u32; 8], added: &[u32; 8], bytes: &[u8])
-    ensures chain { chain.new ≡ chained meaning chain.old added.now bytes.now (length bytes.now / 64) }
-    ensures meter { hash.new ≡ after next hash.old (length bytes.now / 64) }
+    ensures chain { chain.new ≡ chained H.meaning chain.old added.now bytes.now (length bytes.now / 64) }
+    ensures meter { hash.new ≡ after H.next hash.old (length bytes.now / 64) }
 {
     fold_blocks(hash, chain, added, bytes);
 }
@@ -129,9 +129,9 @@ fn absorb_whole<H: Hash>(
     held: &mut [u8; 64],
     piece: &[u8],
 )
-    ensures chain { chain.new ≡ chained meaning chain.old added.now piece.now (length piece.now / 64) }
+    ensures chain { chain.new ≡ chained H.meaning chain.old added.now piece.now (length piece.now / 64) }
     ensures held { held.new ≡ laid_over (rest_of piece.now) held.old }
-    ensures meter { hash.new ≡ after next hash.old (length piece.now / 64) }
+    ensures meter { hash.new ≡ after H.next hash.old (length piece.now / 64) }
 {
     chain_blocks(hash, chain, added, piece);
     let whole = piece.len() / 64 * 64;
@@ -148,9 +148,9 @@ fn absorb_at<H: Hash>(
     piece: &[u8],
 )
     requires { at < 64 }
-    ensures chain { chain.new ≡ chained meaning chain.old added.now (joined held.old at piece.now) (whole_blocks at piece.now) }
+    ensures chain { chain.new ≡ chained H.meaning chain.old added.now (joined held.old at piece.now) (whole_blocks at piece.now) }
     ensures held { held.new ≡ kept_of held.old at piece.now }
-    ensures meter { hash.new ≡ after next hash.old (whole_blocks at piece.now) }
+    ensures meter { hash.new ≡ after H.next hash.old (whole_blocks at piece.now) }
 {
     if at == 0 {
         absorb_whole(hash, chain, added, held, piece);
@@ -174,9 +174,9 @@ pub fn absorb<H: Hash>(
     fed: usize,
     piece: &[u8],
 )
-    ensures chain { chain.new ≡ chained meaning chain.old added.now (joined held.old (fed % 64) piece.now) (whole_blocks (fed % 64) piece.now) }
+    ensures chain { chain.new ≡ chained H.meaning chain.old added.now (joined held.old (fed % 64) piece.now) (whole_blocks (fed % 64) piece.now) }
     ensures held { held.new ≡ kept_of held.old (fed % 64) piece.now }
-    ensures meter { hash.new ≡ after next hash.old (whole_blocks (fed % 64) piece.now) }
+    ensures meter { hash.new ≡ after H.next hash.old (whole_blocks (fed % 64) piece.now) }
 {
     absorb_at(hash, chain, added, held, fed % 64, piece);
 }
@@ -208,9 +208,9 @@ fn close_at<H: Hash>(
 )
     requires within { at < 64 }
     requires place { total % 64 ≡ at }
-    ensures chain { chain.new ≡ chained meaning chain.old added.now (closing meaning.order block.old at total) (blocks at) }
-    ensures block { block.new ≡ drop (64 * (blocks at - 1)) (closing meaning.order block.old at total) }
-    ensures meter { hash.new ≡ after next hash.old (blocks at) }
+    ensures chain { chain.new ≡ chained H.meaning chain.old added.now (closing H.meaning.order block.old at total) (blocks at) }
+    ensures block { block.new ≡ drop (64 * (blocks at - 1)) (closing H.meaning.order block.old at total) }
+    ensures meter { hash.new ≡ after H.next hash.old (blocks at) }
 {
     let bits = length_bytes(H::shape_of().order, total.wrapping_mul(8));
     mark(block, at);
@@ -231,9 +231,9 @@ pub fn chain_end<H: Hash>(
     block: &mut [u8; 64],
     total: u64,
 )
-    ensures chain { chain.new ≡ chained meaning chain.old added.now (closing meaning.order block.old (total % 64) total) (blocks (total % 64)) }
-    ensures block { block.new ≡ drop (64 * (blocks (total % 64) - 1)) (closing meaning.order block.old (total % 64) total) }
-    ensures meter { hash.new ≡ after next hash.old (blocks (total % 64)) }
+    ensures chain { chain.new ≡ chained H.meaning chain.old added.now (closing H.meaning.order block.old (total % 64) total) (blocks (total % 64)) }
+    ensures block { block.new ≡ drop (64 * (blocks (total % 64) - 1)) (closing H.meaning.order block.old (total % 64) total) }
+    ensures meter { hash.new ≡ after H.next hash.old (blocks (total % 64)) }
 {
     close_at(hash, chain, added, block, (total % 64) as usize, total);
 }
@@ -250,8 +250,8 @@ fn word_bytes(order: ByteOrder, word: u32) -> [u8; 4]
 // The code of a chain, in the first bytes of a place that has room.
 fn put_code<H: Hash>(chain: &[u32; 8], out: &mut [u8])
     requires { 32 ≤ length out.old }
-    ensures bytes { out.new ≡ code meaning chain.now ++ drop (4 * meaning.words) out.old }
-    ensures size { length (code meaning chain.now) ≡ 4 * meaning.words }
+    ensures bytes { out.new ≡ code H.meaning chain.now ++ drop (4 * H.meaning.words) out.old }
+    ensures size { length (code H.meaning chain.now) ≡ 4 * H.meaning.words }
 {
     let shape = H::shape_of();
     let words = shape.words;
@@ -262,16 +262,16 @@ fn put_code<H: Hash>(chain: &[u32; 8], out: &mut [u8])
 
 // Writes the code of a chain first into the block, and leaves the bytes past it.
 pub fn write_code<H: Hash>(chain: &[u32; 8], block: &mut [u8; 64])
-    ensures bytes { block.new ≡ code meaning chain.now ++ drop (4 * meaning.words) block.old }
-    ensures size { length (code meaning chain.now) ≡ 4 * meaning.words }
+    ensures bytes { block.new ≡ code H.meaning chain.now ++ drop (4 * H.meaning.words) block.old }
+    ensures size { length (code H.meaning chain.now) ≡ 4 * H.meaning.words }
 {
     put_code::<H>(chain, block);
 }
 
 // The chain of the plain hash of a message.
 fn hash_chain<H: Hash>(hash: &mut H, message: &[u8]) -> [u32; 8]
-    ensures chain { result ≡ chained meaning meaning.first none (padded meaning.order message.now) (blocks (length message.now)) }
-    ensures meter { hash.new ≡ after next hash.old (blocks (length message.now)) }
+    ensures chain { result ≡ chained H.meaning H.meaning.first none (padded H.meaning.order message.now) (blocks (length message.now)) }
+    ensures meter { hash.new ≡ after H.next hash.old (blocks (length message.now)) }
 {
     let mut chain = H::first_chain();
     let mut block = [0; 64];
@@ -282,8 +282,8 @@ fn hash_chain<H: Hash>(hash: &mut H, message: &[u8]) -> [u32; 8]
 
 // Writes the plain hash of a message, 4w bytes, and leaves the bytes past it.
 pub fn hash_message<H: Hash>(hash: &mut H, message: &[u8], out: &mut [u8; 32])
-    ensures code { out.new ≡ hashed meaning message.now ++ drop (4 * meaning.words) out.old }
-    ensures meter { hash.new ≡ after next hash.old (blocks (length message.now)) }
+    ensures code { out.new ≡ hashed H.meaning message.now ++ drop (4 * H.meaning.words) out.old }
+    ensures meter { hash.new ≡ after H.next hash.old (blocks (length message.now)) }
 {
     let chain = hash_chain(hash, message);
     put_code::<H>(&chain, out);

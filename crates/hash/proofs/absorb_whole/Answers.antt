@@ -13,7 +13,7 @@ returns g c =
     let short : length rest ≤ length held = omega (arith, rest_sized piece) in
     let is_rest = take_rest piece (length piece / 64 * 64) ∙ ap (λ (i : ℕ). drop i piece) (mul_comm (length piece / 64) 64) in
     record {
-      chain = c.chain-blocks.ensures.chain;
-      held = c.fill-at.ensures.held ∙ ap (filled held 0) is_rest ∙ from_start held rest short;
-      meter = c.chain-blocks.ensures.meter;
+      chain = c.chain_blocks.ensures.chain;
+      held = c.fill_at.ensures.held ∙ ap (filled held 0) is_rest ∙ from_start held rest short;
+      meter = c.chain_blocks.ensures.meter;
     }

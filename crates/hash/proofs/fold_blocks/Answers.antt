@@ -10,6 +10,6 @@ pub loop-i-preserved : goal.loop-i-preserved
 loop-i-preserved g c =
     let s = c.loop-i in
     let next = g.H.Hash.next in (
-      c.round.ensures.chain ∙ chained_more g.H.Hash.meaning c.args.chain.now c.args.added.now c.args.bytes.now s.chain c.block-at.result.now s.i s.invariant.0 c.block-at.ensures,
+      c.round.ensures.chain ∙ chained_more g.H.Hash.meaning c.args.chain.now c.args.added.now c.args.bytes.now s.chain c.block_at.result.now s.i s.invariant.0 c.block_at.ensures,
       c.round.ensures.meter ∙ ap next s.invariant.1 ∙ after_more next c.args.hash.now s.i,
     )

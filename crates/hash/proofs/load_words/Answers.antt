@@ -12,7 +12,7 @@ pub loop-t-preserved : goal.loop-t-preserved
 unfolding word
 loop-t-preserved c =
     let s = c.loop-t in
-    (length-set s.xs s.t _ ∙ s.invariant.0, words_more c.args.order c.args.block.now s.xs s.t c.word-from.result (omega arith) s.invariant.1 c.word-from.ensures)
+    (length-set s.xs s.t _ ∙ s.invariant.0, words_more c.args.order c.args.block.now s.xs s.t c.word_from.result (omega arith) s.invariant.1 c.word_from.ensures)
 
 pub returns : goal.returns
 returns c =

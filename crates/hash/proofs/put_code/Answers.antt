@@ -9,8 +9,8 @@ loop-i-preserved g c =
     let chain = c.args.chain.now in
     let few = g.met.H.Hash.fits in
     let inside : c.loop-i.i < length chain = search rules in
-    code_more m.order chain c.args.out.now c.loop-i.out c.copy-from-slice.new.self c.loop-i.i _ inside c.loop-i.invariant
-    (c.copy-from-slice.ensures.after ∙ c.word-bytes.ensures ∙ ap (λ o. four o (get_or chain c.loop-i.i 0)) c.shape-of-shape.ensures.2) (omega arith)
+    code_more m.order chain c.args.out.now c.loop-i.out c.copy_from_slice.new.self c.loop-i.i _ inside c.loop-i.invariant
+    (c.copy_from_slice.ensures.after ∙ c.word_bytes.ensures ∙ ap (λ o. four o (get_or chain c.loop-i.i 0)) c.shape_of-shape.ensures.2) (omega arith)
 
 pub returns : goal.returns
 returns g c =

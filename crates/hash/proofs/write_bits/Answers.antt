@@ -5,4 +5,4 @@ use Rattle.hash.proofs.write_bits.Goals as goal
 pub returns : goal.returns
 returns c =
     let size : length c.args.block.now ≡ 64 = search rules in
-    ended c.args.block.now c.copy-from-slice.new.self c.args.bits.now 56 8 size c.copy-from-slice.ensures.after
+    ended c.args.block.now c.copy_from_slice.new.self c.args.bits.now 56 8 size c.copy_from_slice.ensures.after

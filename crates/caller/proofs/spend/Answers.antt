@@ -15,9 +15,9 @@ returns-in-Ok-end g c = record {
       let f = g.A.Algorithm.face in
       let carries = λ (o : Fields). leb o.level c.args.most in
       let by = ended_told next f carries c.args.node.now c.take-taken.new.self c.args.frame.now m st c.in-Ok.order.fields c.in-Ok.ensures.obeys
-      c.end-order-end.new.node c.end-order-end.result
-      (subst (λ (o : Fields). Obeys next f c.take-taken.new.self c.end-order-end.new.node (ended c.end-order-end.result) (λ x. guarded x (cond (leb o.level c.args.most) (carry f x c.in-Ok.order.fields) (decline f x c.in-Ok.order.fields)))) c.fields.ensures c.end-order-end.ensures) in
-      (subst (λ (o : Fields). Told next f c.args.node.now c.end-order-end.new.node (Ok (leb o.level c.args.most)) (spent carries f m c.args.frame.now)) (sym c.fields.ensures) by.1, tt);
+      c.end_order-end.new.node c.end_order-end.result
+      (subst (λ (o : Fields). Obeys next f c.take-taken.new.self c.end_order-end.new.node (ended c.end_order-end.result) (λ x. guarded x (cond (leb o.level c.args.most) (carry f x c.in-Ok.order.fields) (decline f x c.in-Ok.order.fields)))) c.fields.ensures c.end_order-end.ensures) in
+      (subst (λ (o : Fields). Told next f c.args.node.now c.end_order-end.new.node (Ok (leb o.level c.args.most)) (spent carries f m c.args.frame.now)) (sym c.fields.ensures) by.1, tt);
 }
 
 pub returns-in-Err-end : goal.returns-in-Err-end
@@ -27,9 +27,9 @@ returns-in-Err-end g c = record {
       let next = g.H.Hash.next in
       let f = g.A.Algorithm.face in
       let carries = λ (o : Fields). leb o.level c.args.most in
-      absurd (not_refused c.end-order-end.result (c.in-Err-end.e, c.in-Err-end.back)
+      absurd (not_refused c.end_order-end.result (c.in-Err-end.e, c.in-Err-end.back)
       (ended_told next f carries c.args.node.now c.take-taken.new.self c.args.frame.now m st c.in-Ok.order.fields c.in-Ok.ensures.obeys
-      c.end-order-end.new.node c.end-order-end.result
-      (subst (λ (o : Fields). Obeys next f c.take-taken.new.self c.end-order-end.new.node (ended c.end-order-end.result) (λ x. guarded x (cond (leb o.level c.args.most) (carry f x c.in-Ok.order.fields) (decline f x c.in-Ok.order.fields)))) c.fields.ensures c.end-order-end.ensures)).0
+      c.end_order-end.new.node c.end_order-end.result
+      (subst (λ (o : Fields). Obeys next f c.take-taken.new.self c.end_order-end.new.node (ended c.end_order-end.result) (λ x. guarded x (cond (leb o.level c.args.most) (carry f x c.in-Ok.order.fields) (decline f x c.in-Ok.order.fields)))) c.fields.ensures c.end_order-end.ensures)).0
       c.in-Err-end.is);
 }

@@ -44,10 +44,10 @@ loop-call-preserved g c =
       search rules,
       search rules,
       search rules,
-      subst (λ x. Keeps g.H.Hash.next f added c.args.t c.args.address start n (history (take (i + 1) calls) x)) (sym c.push-reserved-in-loop-call.ensures.items) k,
+      subst (λ x. Keeps g.H.Hash.next f added c.args.t c.args.address start n (history (take (i + 1) calls) x)) (sym c.push_reserved-in-loop-call.ensures.items) k,
       λ j le.
-          subst (λ x. Law f added c.args.t c.args.address (g.H.Hash.reading start) (history (take j calls) (take j x)) (report_at (vec_items c.push-reserved-in-loop-call-2.new.self) j)) (sym c.push-reserved-in-loop-call.ensures.items)
-          (subst (λ x. Law f added c.args.t c.args.address (g.H.Hash.reading start) (history (take j calls) (take j (items ++ a ∷ []))) (report_at x j)) (sym c.push-reserved-in-loop-call-2.ensures.items)
+          subst (λ x. Law f added c.args.t c.args.address (g.H.Hash.reading start) (history (take j calls) (take j x)) (report_at (vec_items c.push_reserved-in-loop-call-2.new.self) j)) (sym c.push_reserved-in-loop-call.ensures.items)
+          (subst (λ x. Law f added c.args.t c.args.address (g.H.Hash.reading start) (history (take j calls) (take j (items ++ a ∷ []))) (report_at x j)) (sym c.push_reserved-in-loop-call-2.ensures.items)
           (points_more (Law f added c.args.t c.args.address (g.H.Hash.reading start)) calls items a reports c.report-in-loop-call.result i long more c.loop-call.invariant.5 told j le)),
     )
 

@@ -17,7 +17,7 @@ returns g c =
           let h = history (take k c.args.calls.now) (take k (vec_items c.in-ok-one.one.answers)) in
           let h' = history (take k c.args.others.now) (take k (vec_items c.in-ok-two.two.answers)) in
           (one.2 k le).reading
-          ∙ ap (moved (g.H.Hash.reading c.args.hash)) (same_cost f g.H.Hash.meaning.added c.args.t c.args.address c.args.other-address h h' al (one.2 k le).answered (two.2 k le').answered)
+          ∙ ap (moved (g.H.Hash.reading c.args.hash)) (same_cost f g.H.Hash.meaning.added c.args.t c.args.address c.args.other_address h h' al (one.2 k le).answered (two.2 k le').answered)
           ∙ ap (λ x. moved x (cost f h')) start
           ∙ sym (two.2 k le').reading;
       zeroed = search rules;

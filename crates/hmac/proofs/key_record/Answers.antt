@@ -5,11 +5,11 @@ use Rattle.mac.specs.declared.KeyRecord.{KeyRecord}
 use Rattle.hmac.specs.Hmac.{keys}
 use Rattle.hmac.proofs.key_record.Goals as goal
 
-pub keyed-chain-requires : goal.keyed-chain-requires
-keyed-chain-requires g c = at_most keys (length c.args.key.now) c.requires
+pub keyed_chain-requires : goal.keyed_chain-requires
+keyed_chain-requires g c = at_most keys (length c.args.key.now) c.requires
 
-pub keyed-chain-requires-2 : goal.keyed-chain-requires-2
-keyed-chain-requires-2 g c = at_most keys (length c.args.key.now) c.requires
+pub keyed_chain-requires-2 : goal.keyed_chain-requires-2
+keyed_chain-requires-2 g c = at_most keys (length c.args.key.now) c.requires
 
 pub returns : goal.returns
 returns g c =
@@ -18,9 +18,9 @@ returns g c =
     record {
       made = record {
         size = c.requires;
-        first = c.keyed-chain.ensures.chain;
-        second = c.keyed-chain-2.ensures.chain;
-        bytes = ap (λ (r : KeyRecord). r.bytes) c.blank-record-record.ensures;
+        first = c.keyed_chain.ensures.chain;
+        second = c.keyed_chain-2.ensures.chain;
+        bytes = ap (λ (r : KeyRecord). r.bytes) c.blank_record-record.ensures;
       };
-      meter = c.keyed-chain-2.ensures.meter ∙ ap next (c.keyed-chain.ensures.meter ∙ sym (after_one next h)) ∙ after_more next h 1;
+      meter = c.keyed_chain-2.ensures.meter ∙ ap next (c.keyed_chain.ensures.meter ∙ sym (after_one next h)) ∙ after_more next h 1;
     }

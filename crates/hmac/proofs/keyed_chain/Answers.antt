@@ -11,9 +11,9 @@ returns g c =
     let key = c.args.key.now in
     let pad = c.args.pad in
     let block = xored pad (filled_key key) in
-    let isBlock : c.xor-all.new.block ≡ block = c.xor-all.ensures ∙ ap (xored pad) c.lay-key.ensures in
+    let isBlock : c.xor_all.new.block ≡ block = c.xor_all.ensures ∙ ap (xored pad) c.lay_key.ensures in
     record {
-      chain = c.round.ensures.chain ∙ ap (λ (xs : List ℕ). step m xs none c.xor-all.new.block) c.first-chain.ensures ∙ ap (λ (xs : List ℕ). step m m.first none xs) isBlock
+      chain = c.round.ensures.chain ∙ ap (λ (xs : List ℕ). step m xs none c.xor_all.new.block) c.first_chain.ensures ∙ ap (λ (xs : List ℕ). step m m.first none xs) isBlock
           ∙ sym (one_round m m.first none block (padded_key pad key c.requires));
       meter = c.round.ensures.meter;
     }

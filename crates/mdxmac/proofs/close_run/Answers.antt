@@ -12,13 +12,13 @@ returns g c =
     let next = g.H.Hash.next in
     let run = c.args.run.now in
     let sizeK : length run.bytes ≡ 16 = search rules in
-    let turns = end_turns next c.args.hash.now c.chain-end.new.hash c.round.new.self (run.fed % 64) c.chain-end.ensures.meter c.round.ensures.meter in
+    let turns = end_turns next c.args.hash.now c.chain_end.new.hash c.round.new.self (run.fed % 64) c.chain_end.ensures.meter c.round.ensures.meter in
     record {
       long = search rules;
       code = λ key bytes t s fits.
-          tag_first m (mdx_row m).tag c.write-code.new.block (mdx_code m key bytes) t (omega arith) fits
-          (closed m g.met.H.Hash.strings_long key bytes run.chain run.second run.bytes run.held c.chain-end.new.chain c.lay-last.new.block c.round.new.chain
-          c.write-code.new.block _ run.fed s.stream.fed s.stream.chain s.second s.spare sizeK s.stream.held c.chain-end.ensures.chain c.lay-last.ensures c.round.ensures.chain c.write-code.ensures.size c.write-code.ensures.bytes);
+          tag_first m (mdx_row m).tag c.write_code.new.block (mdx_code m key bytes) t (omega arith) fits
+          (closed m g.met.H.Hash.strings_long key bytes run.chain run.second run.bytes run.held c.chain_end.new.chain c.lay_last.new.block c.round.new.chain
+          c.write_code.new.block _ run.fed s.stream.fed s.stream.chain s.second s.spare sizeK s.stream.held c.chain_end.ensures.chain c.lay_last.ensures c.round.ensures.chain c.write_code.ensures.size c.write_code.ensures.bytes);
       meter = λ key bytes s.
           let number : blocks (run.fed % 64) + 1 ≡ blocks (length bytes) + 1 - length bytes / 64 = omega (arith, s.stream.fed) in
           turns ∙ ap (after next c.args.hash.now) number;

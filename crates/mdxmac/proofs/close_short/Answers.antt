@@ -21,9 +21,9 @@ returns g c =
           let same : n ≡ length bytes % 64 = search rules in
           let none : 64 * (length bytes / 64) ≡ 0 = omega arith in
           let message : take n run.held ≡ bytes = ap (λ (i : ℕ). take i run.held) same ∙ s.stream.held ∙ ap (λ (i : ℕ). drop i bytes) none in
-          tag_first m (short_row m).tag c.write-code.new.block (short_code m key bytes) t (omega arith) fits
-          (short_closed m key bytes run.chain run.second run.bytes (take n run.held) c.lay-short.new.block c.round.new.chain c.write-code.new.block _ le
-          s.stream.chain s.second s.spare sizeK message c.lay-short.ensures c.round.ensures.chain c.write-code.ensures.size c.write-code.ensures.bytes);
+          tag_first m (short_row m).tag c.write_code.new.block (short_code m key bytes) t (omega arith) fits
+          (short_closed m key bytes run.chain run.second run.bytes (take n run.held) c.lay_short.new.block c.round.new.chain c.write_code.new.block _ le
+          s.stream.chain s.second s.spare sizeK message c.lay_short.ensures c.round.ensures.chain c.write_code.ensures.size c.write_code.ensures.bytes);
       meter = λ key bytes s. turns;
       turned = (1, turns);
     }

@@ -7,4 +7,4 @@ returns-then-bytes-n c same =
     let place : List ℕ = c.args.place.now in
     let bytes : List ℕ = c.args.bytes.now in
     let long = c.if-bytes-n.true in
-    (long, (starts_is place bytes c.starts-with.result c.starts-with.ensures.value).0 same ∙ ap (λ (n : ℕ). bytes ++ drop n place) long)
+    (long, (starts_is place bytes c.starts_with.result c.starts_with.ensures.value).0 same ∙ ap (λ (n : ℕ). bytes ++ drop n place) long)

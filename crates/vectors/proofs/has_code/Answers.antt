@@ -13,5 +13,5 @@ returns g c same =
     let chain = chained m m.first none (padded m.order message) (blocks (length message)) in
     let whole : length chain ≡ 8 = chained_sized m met.chain_long few m.first none (padded m.order message) (blocks (length message)) met.first_long in
     let front = c.begins.ensures same in
-    same_front c.args.code.now (hashed m message) _ _ (4 * m.words) (front.0 ∙ ap (λ (w : ℕ). 4 * w) c.shape-of.ensures.0) (code_sized m.order m.words chain whole few)
-    (sym front.1 ∙ c.hash-message.ensures.code)
+    same_front c.args.code.now (hashed m message) _ _ (4 * m.words) (front.0 ∙ ap (λ (w : ℕ). 4 * w) c.shape_of.ensures.0) (code_sized m.order m.words chain whole few)
+    (sym front.1 ∙ c.hash_message.ensures.code)

@@ -32,7 +32,7 @@ returns-then-not-run g c =
 pub returns-then-not-has : goal.returns-then-not-has
 returns-then-not-has g c =
     let begun = c.if-not-run.false in
-    let odd : within g.Self.Algorithm.face.row.tag c.args.t ≡ false = in_row g c.args.t c.row-of.result c.row-of.ensures ∙ sym c.if-not-has.ensures in
+    let odd : within g.Self.Algorithm.face.row.tag c.args.t ≡ false = in_row g c.args.t c.row_of.result c.row_of.ensures ∙ sym c.if-not-has.ensures in
     record {
       ended = record {
         idle = λ e. absurd (both_ways _ e begun);
@@ -50,7 +50,7 @@ returns-then-not-has g c =
 pub returns-then-out-t : goal.returns-then-out-t
 returns-then-out-t g c =
     let begun = c.if-not-run.false in
-    let fits : within g.Self.Algorithm.face.row.tag c.args.t ≡ true = in_row g c.args.t c.row-of.result c.row-of.ensures ∙ sym c.if-not-has.ensures in
+    let fits : within g.Self.Algorithm.face.row.tag c.args.t ≡ true = in_row g c.args.t c.row_of.result c.row_of.ensures ∙ sym c.if-not-has.ensures in
     record {
       ended = record {
         idle = λ e. absurd (both_ways _ e begun);
@@ -70,7 +70,7 @@ returns g c =
     let begun = c.if-not-run.false in
     let t = c.args.t in
     let out = c.args.out.now in
-    let fits : within g.Self.Algorithm.face.row.tag t ≡ true = in_row g t c.row-of.result c.row-of.ensures ∙ sym c.if-not-has.ensures in
+    let fits : within g.Self.Algorithm.face.row.tag t ≡ true = in_row g t c.row_of.result c.row_of.ensures ∙ sym c.if-not-has.ensures in
     let short : t ≤ 64 = let most = at_most g.Self.Algorithm.face.row.tag t fits in let limit = g.met.Self.Algorithm.limits.tag in omega arith in
     let closed = c.close.ensures in
     let block = c.close.new.work in
@@ -82,11 +82,11 @@ returns g c =
         tagged = λ k b s _ le. (
           refl,
           closed.meter k b s,
-          c.write-front.ensures ∙ ap (λ (xs : List ℕ). xs ++ drop t out) (closed.code k b t s fits),
+          c.write_front.ensures ∙ ap (λ (xs : List ℕ). xs ++ drop t out) (closed.code k b t s fits),
         );
         refused = λ e q. absurd (let z : ◌≡◌ {A = ℕ} 0 1 = cc in omega arith);
-        freed = λ _. c.free-run.ensures;
-        past = ap (drop t) c.write-front.ensures ∙ drop_at (take t block) (drop t out) t (let long : length block ≡ 64 = closed.long in simp length-take (omega arith));
+        freed = λ _. c.free_run.ensures;
+        past = ap (drop t) c.write_front.ensures ∙ drop_at (take t block) (drop t out) t (let long : length block ≡ 64 = closed.long in simp length-take (omega arith));
         turned = closed.turned;
       };
       zeroed = search rules;

@@ -6,8 +6,8 @@ pub returns : goal.returns
 returns g c =
     let m = g.H.Hash.meaning in
     let words = c.args.words.now in
-    let n = c.shape-of-n.result.added in
-    let isN = c.shape-of-n.ensures.1 in
+    let n = c.shape_of-n.result.added in
+    let isN = c.shape_of-n.ensures.1 in
     let few = g.met.H.Hash.fits in
     let size : length words ≡ 8 = search rules in
     let low : n ≤ 8 = omega (arith, isN) in

@@ -11,13 +11,13 @@ returns g c =
     let key = c.args.key.now in
     let h = g.met.H.Hash.strings_long in
     let size : length c.args.block.now ≡ 64 = search rules in
-    let size2 : length c.put-strings.new.block ≡ 64 = search rules in
+    let size2 : length c.put_strings.new.block ≡ 64 = search rules in
     let lk = length-K' key c.requires.some in
     let lt = length_three m h i in
     record {
-      chain = mixed_is m h key c.first-chain.result c.put-strings.new.block c.put-key-2.new.block c.plain-round.new.chain c.plain-round-2.new.chain i c.requires.some c.first-chain.ensures
-          (two_put c.args.block.now c.put-key.new.block c.put-strings.new.block (K' key) (three m i) 16 size (omega arith) (omega arith) c.put-key.ensures c.put-strings.ensures)
-          (two_put c.put-strings.new.block c.put-strings-2.new.block c.put-key-2.new.block (three m i) (K' key) 48 size2 (omega arith) (omega arith) c.put-strings-2.ensures c.put-key-2.ensures)
-          c.plain-round.ensures.chain c.plain-round-2.ensures.chain;
-      meter = two_turns g.H.Hash.next c.args.hash.now c.plain-round.new.hash c.plain-round-2.new.hash c.plain-round.ensures.meter c.plain-round-2.ensures.meter;
+      chain = mixed_is m h key c.first_chain.result c.put_strings.new.block c.put_key-2.new.block c.plain_round.new.chain c.plain_round-2.new.chain i c.requires.some c.first_chain.ensures
+          (two_put c.args.block.now c.put_key.new.block c.put_strings.new.block (K' key) (three m i) 16 size (omega arith) (omega arith) c.put_key.ensures c.put_strings.ensures)
+          (two_put c.put_strings.new.block c.put_strings-2.new.block c.put_key-2.new.block (three m i) (K' key) 48 size2 (omega arith) (omega arith) c.put_strings-2.ensures c.put_key-2.ensures)
+          c.plain_round.ensures.chain c.plain_round-2.ensures.chain;
+      meter = two_turns g.H.Hash.next c.args.hash.now c.plain_round.new.hash c.plain_round-2.new.hash c.plain_round.ensures.meter c.plain_round-2.ensures.meter;
     }

@@ -12,5 +12,5 @@ returns c =
     let sizeK : length c.args.bytes.now ≡ 16 = search rules in
     let le = c.requires in
     let lm : length (take n held) ≡ n = simp length-take (omega arith) in
-    short_laid c.args.block.now c.put-bytes.new.block c.put-message.new.block c.put-bytes-2.new.block c.mix-bytes.new.block c.args.bytes.now (take n held) n size sizeK lm le
-    c.put-bytes.ensures c.put-message.ensures (c.put-bytes-2.ensures ∙ ap (λ xs. put 48 xs c.put-message.new.block) c.length-bytes.ensures) c.mix-bytes.ensures
+    short_laid c.args.block.now c.put_bytes.new.block c.put_message.new.block c.put_bytes-2.new.block c.mix_bytes.new.block c.args.bytes.now (take n held) n size sizeK lm le
+    c.put_bytes.ensures c.put_message.ensures (c.put_bytes-2.ensures ∙ ap (λ xs. put 48 xs c.put_message.new.block) c.length_bytes.ensures) c.mix_bytes.ensures

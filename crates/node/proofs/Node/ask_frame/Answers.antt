@@ -6,18 +6,18 @@ use Rattle.frame.specs.declared.Header.{Header}
 pub returns-in-Ok-further : goal.returns-in-Ok-further
 returns-in-Ok-further g c =
     let n = c.args.self.now in
-    asks_all g.A.Algorithm.face n.desk.hand c.args.frame.now n.t n.address n.slots n.desk.took (sym c.if-is-some.ensures)
-    c.in-Ok.told c.fields-of-fields.result c.header.result.address c.in-Ok.ensures.read c.in-Ok.ensures.fits c.fields-of-fields.ensures
+    asks_all g.A.Algorithm.face n.desk.hand c.args.frame.now n.t n.address n.slots n.desk.took (sym c.if-is_some.ensures)
+    c.in-Ok.told c.fields_of-fields.result c.header.result.address c.in-Ok.ensures.read c.in-Ok.ensures.fits c.fields_of-fields.ensures
     (ap (λ (h : Header). h.address) c.header.ensures) c.in-Ok-further.record c.in-Ok-further.ensures
 
 pub returns-in-Err-further : goal.returns-in-Err-further
 returns-in-Err-further g c =
     let n = c.args.self.now in
-    asks_no g.A.Algorithm.face n.desk.hand c.args.frame.now n.t n.address n.slots n.desk.took (sym c.if-is-some.ensures)
-    c.in-Ok.told c.fields-of-fields.result c.header.result.address c.in-Ok.ensures.read c.in-Ok.ensures.fits c.fields-of-fields.ensures
+    asks_no g.A.Algorithm.face n.desk.hand c.args.frame.now n.t n.address n.slots n.desk.took (sym c.if-is_some.ensures)
+    c.in-Ok.told c.fields_of-fields.result c.header.result.address c.in-Ok.ensures.read c.in-Ok.ensures.fits c.fields_of-fields.ensures
     (ap (λ (h : Header). h.address) c.header.ensures) c.in-Err-further.e c.in-Err-further.ensures
 
 pub returns-in-Err : goal.returns-in-Err
 returns-in-Err g c =
     let n = c.args.self.now in
-    asks_unread g.A.Algorithm.face n.desk.hand c.args.frame.now n.t n.address n.slots n.desk.took (sym c.if-is-some.ensures) c.in-Err.e c.in-Err.ensures.read
+    asks_unread g.A.Algorithm.face n.desk.hand c.args.frame.now n.t n.address n.slots n.desk.took (sym c.if-is_some.ensures) c.in-Err.e c.in-Err.ensures.read

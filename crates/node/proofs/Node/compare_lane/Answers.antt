@@ -27,6 +27,6 @@ returns g c =
     let n = c.args.self.now in
     let l4 : length n.lanes ≡ 4 = search rules in
     record {
-      obeys = λ m st. judges g.H.Hash.next g.A.Algorithm.face g.A.Algorithm.laws n m st c.args.lane _ c.args.tag.now _ _ _ c.if-lane-ge4.false l4 c.requires c.if-not-run.false c.if-tag-self.false c.free-run.ensures c.is-tag-answer.ensures;
+      obeys = λ m st. judges g.H.Hash.next g.A.Algorithm.face g.A.Algorithm.laws n m st c.args.lane _ c.args.tag.now _ _ _ c.if-lane-ge4.false l4 c.requires c.if-not-run.false c.if-tag-self.false c.free_run.ensures c.is_tag-answer.ensures;
       zeroed = search rules;
     }

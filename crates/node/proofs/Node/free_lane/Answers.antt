@@ -14,4 +14,4 @@ pub returns : goal.returns
 returns g c = λ m st.
     let n = c.args.self.now in
     let l4 : length n.lanes ≡ 4 = search rules in
-    drops g.H.Hash.next g.A.Algorithm.face g.A.Algorithm.laws n m st c.args.lane _ _ c.if-lane-ge4.false l4 c.if-not-self-lane.false c.free-run.ensures
+    drops g.H.Hash.next g.A.Algorithm.face g.A.Algorithm.laws n m st c.args.lane _ _ c.if-lane-ge4.false l4 c.if-not-self-lane.false c.free_run.ensures

@@ -6,11 +6,11 @@ use Rattle.node.proofs.Node.seal_frame.Goals as goal
 pub returns-in-Ok : goal.returns-in-Ok
 returns-in-Ok g c = record {
   obeys = λ m st. seals g.H.Hash.next g.A.Algorithm.face c.args.self.now m st c.args.slot c.args.kind c.args.address c.args.body.now c.args.out.now g.met.A.Algorithm.sized c.requires
-      c.in-Ok.record c.in-Ok.ensures c.saturating-add-number.result c.saturating-add-number.ensures c.write-front.new.out c.write-front.ensures.out c.tag-behind.new.out c.tag-behind.new.hash c.tag-behind.ensures
-      c.after-seal-self.result c.after-seal-self.ensures;
+      c.in-Ok.record c.in-Ok.ensures c.saturating_add-number.result c.saturating_add-number.ensures c.write_front.new.out c.write_front.ensures.out c.tag_behind.new.out c.tag_behind.new.hash c.tag_behind.ensures
+      c.after_seal-self.result c.after_seal-self.ensures;
   written = λ m st. seals_written g.H.Hash.next g.A.Algorithm.face c.args.self.now m st c.args.slot c.args.kind c.args.address c.args.body.now c.args.out.now g.met.A.Algorithm.sized c.requires
-      c.in-Ok.record c.in-Ok.ensures c.saturating-add-number.result c.saturating-add-number.ensures c.write-front.new.out c.write-front.ensures.out c.tag-behind.new.out c.tag-behind.new.hash c.tag-behind.ensures
-      c.after-seal-self.result c.after-seal-self.ensures;
+      c.in-Ok.record c.in-Ok.ensures c.saturating_add-number.result c.saturating_add-number.ensures c.write_front.new.out c.write_front.ensures.out c.tag_behind.new.out c.tag_behind.new.hash c.tag_behind.ensures
+      c.after_seal-self.result c.after_seal-self.ensures;
   zeroed = search rules;
 }
 

@@ -3,20 +3,20 @@ use Rattle.node.proofs.Steps.{obeys_refused}
 use Rattle.node.proofs.Takes.{take-refused, takes_wrong, takes, taken_slot}
 use Rattle.node.proofs.Node.take_order.Goals as goal
 
-pub returns-then-not-is-signed : goal.returns-then-not-is-signed
-returns-then-not-is-signed g c = record {
-  obeys = λ m st. takes_wrong g.H.Hash.next g.A.Algorithm.face c.args.self.now m st c.args.frame.now c.requires c.in-Ok.fields c.in-Ok.record c.in-Ok.ensures c.is-signed.new.hash c.is-signed.result c.is-signed.ensures c.if-not-is-signed.true;
+pub returns-then-not-is_signed : goal.returns-then-not-is_signed
+returns-then-not-is_signed g c = record {
+  obeys = λ m st. takes_wrong g.H.Hash.next g.A.Algorithm.face c.args.self.now m st c.args.frame.now c.requires c.in-Ok.fields c.in-Ok.record c.in-Ok.ensures c.is_signed.new.hash c.is_signed.result c.is_signed.ensures c.if-not-is_signed.true;
   zeroed = search rules;
 }
 
-pub after-take-self-requires : goal.after-take-self-requires
-after-take-self-requires g c =
+pub after_take-self-requires : goal.after_take-self-requires
+after_take-self-requires g c =
     let n = c.args.self.now in
     taken_slot g.A.Algorithm.face n.desk.hand c.args.frame.now n.t n.address n.slots n.desk.took c.in-Ok.fields c.in-Ok.record c.in-Ok.ensures
 
 pub returns-in-Ok : goal.returns-in-Ok
 returns-in-Ok g c = record {
-  obeys = λ m st. takes g.H.Hash.next g.A.Algorithm.face c.args.self.now m st c.args.frame.now c.requires c.in-Ok.fields c.in-Ok.record c.in-Ok.ensures c.is-signed.new.hash c.is-signed.result c.is-signed.ensures c.after-take-self.result c.if-not-is-signed.false c.after-take-self.ensures;
+  obeys = λ m st. takes g.H.Hash.next g.A.Algorithm.face c.args.self.now m st c.args.frame.now c.requires c.in-Ok.fields c.in-Ok.record c.in-Ok.ensures c.is_signed.new.hash c.is_signed.result c.is_signed.ensures c.after_take-self.result c.if-not-is_signed.false c.after_take-self.ensures;
   zeroed = search rules;
 }
 

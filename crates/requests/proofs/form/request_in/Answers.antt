@@ -5,44 +5,44 @@ use Rattle.requests.proofs.form.request_in.Goals as goal
 pub returns-in-default : goal.returns-in-default
 returns-in-default c = record { value = asked_not c.args.line.now c.in-default.ensures; within = tt }
 
-pub bytes-in-requires : goal.bytes-in-requires
-bytes-in-requires c = key_short c.args.line.now _ _ _ _ _ c.in-Some.ensures c.requires
+pub bytes_in-requires : goal.bytes_in-requires
+bytes_in-requires c = key_short c.args.line.now _ _ _ _ _ c.in-Some.ensures c.requires
 
-pub bytes-in-requires-2 : goal.bytes-in-requires-2
-bytes-in-requires-2 c = message_short c.args.line.now _ _ _ _ _ c.in-Some.ensures c.requires
+pub bytes_in-requires-2 : goal.bytes_in-requires-2
+bytes_in-requires-2 c = message_short c.args.line.now _ _ _ _ _ c.in-Some.ensures c.requires
 
-pub returns-in-default-number-of : goal.returns-in-default-number-of
-returns-in-default-number-of c = record {
-  value = asked_five c.args.line.now _ _ _ _ _ c.in-Some.ensures c.in-default-number-of.ensures refl refl refl refl;
+pub returns-in-default-number_of : goal.returns-in-default-number_of
+returns-in-default-number_of c = record {
+  value = asked_five c.args.line.now _ _ _ _ _ c.in-Some.ensures c.in-default-number_of.ensures refl refl refl refl;
   within = tt;
 }
 
-pub returns-in-default-number-of-2 : goal.returns-in-default-number-of-2
-returns-in-default-number-of-2 c = record {
-  value = asked_five c.args.line.now _ _ _ _ _ c.in-Some.ensures c.in-Some-number-of.ensures c.in-default-number-of-2.ensures refl refl refl;
+pub returns-in-default-number_of-2 : goal.returns-in-default-number_of-2
+returns-in-default-number_of-2 c = record {
+  value = asked_five c.args.line.now _ _ _ _ _ c.in-Some.ensures c.in-Some-number_of.ensures c.in-default-number_of-2.ensures refl refl refl;
   within = tt;
 }
 
-pub returns-in-default-number-of-3 : goal.returns-in-default-number-of-3
-returns-in-default-number-of-3 c = record {
-  value = asked_five c.args.line.now _ _ _ _ _ c.in-Some.ensures c.in-Some-number-of.ensures c.in-Some-number-of-2.ensures c.in-default-number-of-3.ensures refl refl;
+pub returns-in-default-number_of-3 : goal.returns-in-default-number_of-3
+returns-in-default-number_of-3 c = record {
+  value = asked_five c.args.line.now _ _ _ _ _ c.in-Some.ensures c.in-Some-number_of.ensures c.in-Some-number_of-2.ensures c.in-default-number_of-3.ensures refl refl;
   within = tt;
 }
 
-pub returns-in-default-bytes-in : goal.returns-in-default-bytes-in
-returns-in-default-bytes-in c = record {
-  value = asked_five c.args.line.now _ _ _ _ _ c.in-Some.ensures c.in-Some-number-of.ensures c.in-Some-number-of-2.ensures c.in-Some-number-of-3.ensures c.in-default-bytes-in.ensures.value refl;
+pub returns-in-default-bytes_in : goal.returns-in-default-bytes_in
+returns-in-default-bytes_in c = record {
+  value = asked_five c.args.line.now _ _ _ _ _ c.in-Some.ensures c.in-Some-number_of.ensures c.in-Some-number_of-2.ensures c.in-Some-number_of-3.ensures c.in-default-bytes_in.ensures.value refl;
   within = tt;
 }
 
-pub returns-in-default-bytes-in-2 : goal.returns-in-default-bytes-in-2
-returns-in-default-bytes-in-2 c = record {
-  value = asked_five c.args.line.now _ _ _ _ _ c.in-Some.ensures c.in-Some-number-of.ensures c.in-Some-number-of-2.ensures c.in-Some-number-of-3.ensures c.in-Some-bytes-in.ensures.value c.in-default-bytes-in-2.ensures.value;
+pub returns-in-default-bytes_in-2 : goal.returns-in-default-bytes_in-2
+returns-in-default-bytes_in-2 c = record {
+  value = asked_five c.args.line.now _ _ _ _ _ c.in-Some.ensures c.in-Some-number_of.ensures c.in-Some-number_of-2.ensures c.in-Some-number_of-3.ensures c.in-Some-bytes_in.ensures.value c.in-default-bytes_in-2.ensures.value;
   within = tt;
 }
 
 pub returns : goal.returns
 returns c = record {
-  value = asked_five c.args.line.now _ _ _ _ _ c.in-Some.ensures c.in-Some-number-of.ensures c.in-Some-number-of-2.ensures c.in-Some-number-of-3.ensures c.in-Some-bytes-in.ensures.value c.in-Some-bytes-in-2.ensures.value;
-  within = (c.in-Some-bytes-in.ensures.within, c.in-Some-bytes-in-2.ensures.within);
+  value = asked_five c.args.line.now _ _ _ _ _ c.in-Some.ensures c.in-Some-number_of.ensures c.in-Some-number_of-2.ensures c.in-Some-number_of-3.ensures c.in-Some-bytes_in.ensures.value c.in-Some-bytes_in-2.ensures.value;
+  within = (c.in-Some-bytes_in.ensures.within, c.in-Some-bytes_in-2.ensures.within);
 }

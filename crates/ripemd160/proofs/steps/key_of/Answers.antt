@@ -6,4 +6,4 @@ use Rattle.ripemd160.proofs.steps.key_of.Goals as goal
 pub returns-else-this-ne0 : goal.returns-else-this-ne0
 returns-else-this-ne0 g c =
     let none = blank_at c.args.added.now (c.requires.plain (search rules)) (which c.args.right c.args.r) in
-    plus_none _ c.constant-at.result _ c.constant-at.ensures c.constant-at.type-inv none
+    plus_none _ c.constant_at.result _ c.constant_at.ensures c.constant_at.type-inv none

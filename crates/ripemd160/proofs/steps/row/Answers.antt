@@ -9,6 +9,6 @@ pub returns : goal.returns
 unfolding row
 returns g c =
     let a = c.args in
-    let left = steps_steps false g.row.R c.key-of-kl.result a.xs.now a.l.now 0 8 8 in
-    let right = steps_steps true g.row.R c.key-of-kr.result a.xs.now a.r.now 0 8 8 in
+    let left = steps_steps false g.row.R c.key_of-kl.result a.xs.now a.l.now 0 8 8 in
+    let right = steps_steps true g.row.R c.key_of-kr.result a.xs.now a.r.now 0 8 8 in
     record { left = cc; right = cc }

@@ -5,8 +5,8 @@ use Rattle.scripts.proofs.answer.answer_lines.Goals as goal
 pub loop-line-init : goal.loop-line-init
 loop-line-init c = told_none _ _ c.args.lines.now _ c.new-out.ensures.items
 
-pub put-reply-requires : goal.put-reply-requires
-put-reply-requires c = omega arith
+pub put_reply-requires : goal.put_reply-requires
+put_reply-requires c = omega arith
 
 pub loop-line-preserved : goal.loop-line-preserved
 loop-line-preserved c =

@@ -11,4 +11,4 @@ returns-in-default c = words_some c.args.words.now _ None (omega arith) c.in-def
 
 pub returns : goal.returns
 returns c =
-    IfOk-weaker c.fields-in.result _ _ (λ o e. e ∙ words_some c.args.words.now _ (Some c.in-Some.verb) (omega arith) c.in-Some.ensures) c.fields-in.ensures
+    IfOk-weaker c.fields_in.result _ _ (λ o e. e ∙ words_some c.args.words.now _ (Some c.in-Some.verb) (omega arith) c.in-Some.ensures) c.fields_in.ensures

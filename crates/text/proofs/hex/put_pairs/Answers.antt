@@ -6,7 +6,7 @@ use Rattle.text.proofs.hex.put_pairs.Goals as goal
 
 pub loop-b-preserved : goal.loop-b-preserved
 loop-b-preserved c = (
-  hex_more _ _ _ _ c.args.bytes.now c.loop-b.b-index _ _ c.loop-b-test.true c.loop-b.invariant.0 c.push-reserved.ensures.items c.push-reserved-in-loop-b.ensures.items c.hex-digit.ensures c.hex-digit-in-loop-b.ensures,
+  hex_more _ _ _ _ c.args.bytes.now c.loop-b.b-index _ _ c.loop-b-test.true c.loop-b.invariant.0 c.push_reserved.ensures.items c.push_reserved-in-loop-b.ensures.items c.hex_digit.ensures c.hex_digit-in-loop-b.ensures,
   omega arith,
   omega arith,
 )

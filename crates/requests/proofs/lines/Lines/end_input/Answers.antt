@@ -7,8 +7,8 @@ pub returns : goal.returns
 returns c =
     let long : length c.args.self.now.held ≡ 1025 = search rules in
     record {
-      told = MatchResult-weaker c.end-line.result c.end-line.ensures.told
-          (λ x replied. finish_some c.args.self.now c.end-line.new.self (vec_items c.args.out.now) (vec_items c.end-line.new.out) long (omega arith) replied)
+      told = MatchResult-weaker c.end_line.result c.end_line.ensures.told
+          (λ x replied. finish_some c.args.self.now c.end_line.new.self (vec_items c.args.out.now) (vec_items c.end_line.new.out) long (omega arith) replied)
           (λ e same. same);
-      succeeds = c.end-line.ensures.succeeds;
+      succeeds = c.end_line.ensures.succeeds;
     }

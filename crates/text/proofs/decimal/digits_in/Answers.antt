@@ -13,11 +13,11 @@ returns-then-b-lt48 c =
     in
     record { value = sym (number_is c.args.text.now c.if-text-lt1.false c.if-text-gt10.false ∙ sym c.loop-b.invariant.0 ∙ digit_not c.args.text.now c.loop-b.b-index c.loop-b.n c.loop-b-test.true out); small = tt }
 
-pub overflow-mul-n : goal.overflow-mul-n
-overflow-mul-n c = omega (arith, power_small c.loop-b.b-index c.loop-b.n c.loop-b.invariant.1 (omega arith))
+pub overflow_mul-n : goal.overflow_mul-n
+overflow_mul-n c = omega (arith, power_small c.loop-b.b-index c.loop-b.n c.loop-b.invariant.1 (omega arith))
 
-pub overflow-add-n : goal.overflow-add-n
-overflow-add-n c = omega (arith, power_small c.loop-b.b-index c.loop-b.n c.loop-b.invariant.1 (omega arith), c.from.ensures)
+pub overflow_add-n : goal.overflow_add-n
+overflow_add-n c = omega (arith, power_small c.loop-b.b-index c.loop-b.n c.loop-b.invariant.1 (omega arith), c.from.ensures)
 
 pub loop-b-preserved : goal.loop-b-preserved
 loop-b-preserved c = (

@@ -1,4 +1,4 @@
-use Rattle.std.proofs.Common.{vec_items, ◌∙◌}
+use Rattle.std.proofs.Common.{◌∙◌}
 use Rattle.std.proofs.lemmas.Result.{IfOk-weaker}
 use Rattle.text.proofs.Pairs.{bytes_pairs}
 use Rattle.text.proofs.hex.dash_or_pairs.Goals as goal

@@ -1,4 +1,4 @@
-use Rattle.std.proofs.Common.{◌≡◌, ◌/◌, length, vec_items, sym, ap, ◌∙◌, arith}
+use Rattle.std.proofs.Common.{◌/◌, length, vec_items, arith}
 use Rattle.text.proofs.Pairs.{pairs_begin, pair_more, pair_not, pairs_all, pairs_odd}
 use Rattle.text.proofs.hex.pairs_in.Goals as goal
 
@@ -8,13 +8,13 @@ returns-then-text-ne0 c = pairs_odd c.args.text.now (length c.args.text.now / 2)
 pub loop-i-init : goal.loop-i-init
 loop-i-init c = pairs_begin c.args.text.now _ c.new-bytes.ensures.items
 
-pub returns-in-default : goal.returns-in-default
-returns-in-default c =
-    pair_not c.args.text.now (vec_items c.loop-i.bytes) c.loop-i.i (omega arith) c.in-default.ensures c.loop-i.invariant
+pub returns-in_default : goal.returns-in_default
+returns-in_default c =
+    pair_not c.args.text.now (vec_items c.loop-i.bytes) c.loop-i.i (omega arith) c.in_default.ensures c.loop-i.invariant
 
 pub loop-i-preserved : goal.loop-i-preserved
 loop-i-preserved c =
-    pair_more c.args.text.now (vec_items c.loop-i.bytes) _ c.loop-i.i _ (omega arith) c.in-ok-push.ensures.items c.in-Some.ensures c.loop-i.invariant
+    pair_more c.args.text.now (vec_items c.loop-i.bytes) _ c.loop-i.i _ (omega arith) c.in_ok-push.ensures.items c.in-Some.ensures c.loop-i.invariant
 
 pub returns : goal.returns
 returns c = pairs_all c.args.text.now (vec_items c.loop-i.bytes) c.loop-i.i (omega arith) c.loop-i.invariant

@@ -24,8 +24,8 @@ pub struct Work {
 
 // The plain hash of a message, where there is room for it.
 fn put_hash<H: Hash>(hash: &mut H, message: &[u8], out: &mut [u8]) -> u32
-    ensures answer { result ≡ hash_status meaning (length out.old) }
-    ensures code { out.new ≡ hash_put meaning message.now out.old }
+    ensures answer { result ≡ hash_status H.meaning (length out.old) }
+    ensures code { out.new ≡ hash_put H.meaning message.now out.old }
 {
     let n = 4 * H::shape_of().words;
     if n > out.len() {

@@ -1,5 +1,5 @@
 -- What the chain is after one block more. Assumes nothing.
-use Rattle.std.proofs.Common.{◌≡◌, ℕ, suc, ◌+◌, ◌-◌, ◌*◌, List, take, drop, sym, refl, ap, ◌∙◌, add-one, arith}
+use Rattle.std.proofs.Common.{◌≡◌, ℕ, ◌+◌, ◌*◌, List, take, drop, add-one}
 use Rattle.hash.specs.Meaning.{Meaning, step, chained}
 
 pub chained_more : (m : Meaning) (c k bs s b : List ℕ) (n : ℕ) → s ≡ chained m c k bs n → b ≡ take 64 (drop (64 * n) bs) →

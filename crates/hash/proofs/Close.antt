@@ -1,12 +1,12 @@
 -- The last block of a message with its padding, and the code of a chain, as they are written. Assumes nothing.
-use Rattle.std.proofs.Common.{◌≡◌, ℕ, zero, suc, ◌+◌, ◌-◌, ◌*◌, ◌/◌, ◌%◌, ◌^◌, ◌<◌, ◌≤◌, min, List, [], ◌∷◌, ◌++◌, length, get_or, take, drop, set, replicate, sym, refl, ap, ◌∙◌, append_assoc, append-nil, arith, length-append, length-drop, length-set, take-append-drop, length-take}
+use Rattle.std.proofs.Common.{◌≡◌, ℕ, zero, suc, ◌+◌, ◌-◌, ◌*◌, ◌/◌, ◌%◌, ◌^◌, ◌<◌, ◌≤◌, List, [], ◌∷◌, ◌++◌, length, get_or, take, drop, set, replicate, sym, refl, ap, ◌∙◌, append_assoc, append-nil, arith, length-append, length-drop, length-set, length-take}
 use lib.Pow.{field, mod-mod-pow}
-use lib.Seq.{take-append-add, drop-append-add}
-use borrow.Rule.Slice.PartMut.{put_mid, post_of}
+use lib.Seq.{take-append-add}
+use borrow.Rule.Slice.PartMut.{put_mid}
 use Rattle.std.proofs.lemmas.List.{take_all, take_at, drop_at, drop_all, drop-drop, take_more, take_more_set, take-replicate, length-replicate, replicate-append-replicate}
 use Rattle.hash.specs.declared.ByteOrder.{ByteOrder}
 use Rattle.hash.specs.declared.ByteOrder.TheVariants.{LowFirst, HighFirst}
-use Rattle.hash.specs.Meaning.{Meaning, step, chained, blocks, eight, four, bytes_of, padding, closing}
+use Rattle.hash.specs.Meaning.{Meaning, step, chained, blocks, eight, four, bytes_of, closing}
 use Rattle.hash.specs.Meter.{after}
 use Rattle.hash.proofs.Message.{chained_append}
 use Rattle.hash.proofs.Turns.{after_one, after_more}

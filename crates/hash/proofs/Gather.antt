@@ -1,5 +1,5 @@
 -- A piece joined to the bytes that a block holds. Assumes nothing.
-use Rattle.std.proofs.Common.{◌≡◌, ℕ, ◌+◌, ◌-◌, ◌*◌, ◌/◌, ◌%◌, ◌^◌, ◌<◌, ◌≤◌, min, cond, eqb, List, [], ◌∷◌, ◌++◌, length, take, drop, sym, refl, ap, ◌∙◌, append_assoc, append-nil, arith, lit<, length-append, length-drop, take-append-drop, length-take}
+use Rattle.std.proofs.Common.{◌≡◌, ℕ, ◌+◌, ◌-◌, ◌*◌, ◌/◌, ◌%◌, ◌<◌, ◌≤◌, cond, eqb, List, [], ◌++◌, length, take, drop, sym, refl, ap, ◌∙◌, append_assoc, append-nil, arith, lit<, length-append, length-drop, take-append-drop, length-take}
 use Rattle.std.proofs.lemmas.Bool.{ne_eqb}
 use lib.Seq.{drop-append-add}
 use Rattle.std.proofs.lemmas.List.{take_all, take_at, drop_all, drop_at}

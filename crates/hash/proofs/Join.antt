@@ -1,7 +1,7 @@
 -- Bytes whose whole blocks are in the chain already, joined by more. Assumes nothing.
-use Rattle.std.proofs.Common.{◌≡◌, ℕ, ◌+◌, ◌-◌, ◌*◌, ◌/◌, ◌%◌, ◌^◌, ◌<◌, ◌≤◌, List, [], ◌∷◌, ◌++◌, length, take, drop, sym, refl, ap, ◌∙◌, append_assoc, add-zero, arith, length-append, take-append-drop, length-take}
+use Rattle.std.proofs.Common.{◌≡◌, ℕ, ◌+◌, ◌*◌, ◌/◌, ◌%◌, List, ◌++◌, length, take, drop, sym, ap, ◌∙◌, append_assoc, add-zero, arith, length-append, take-append-drop, length-take}
 use lib.Seq.{drop-append-add}
-use Rattle.hash.specs.Meaning.{Meaning, chained, blocks, padding, padded, closing, none}
+use Rattle.hash.specs.Meaning.{Meaning, chained, blocks, padding, padded}
 use Rattle.hash.specs.Meter.{after}
 use Rattle.hash.proofs.Message.{chained_append}
 use Rattle.hash.proofs.Turns.{after_after}

@@ -1,5 +1,5 @@
 -- The words of a block, one word more. Assumes nothing.
-use Rattle.std.proofs.Common.{◌≡◌, ℕ, suc, ◌+◌, ◌<◌, List, [], ◌∷◌, ◌++◌, length, take, set, sym, refl, ap, ◌∙◌, add-one}
+use Rattle.std.proofs.Common.{◌≡◌, ℕ, ◌+◌, ◌<◌, List, length, take, set, ◌∙◌, add-one}
 use Rattle.std.proofs.lemmas.List.{take_more_set}
 use Rattle.hash.specs.declared.ByteOrder.{ByteOrder}
 use Rattle.hash.specs.Words.{word, words}

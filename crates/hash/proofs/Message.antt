@@ -1,8 +1,8 @@
 -- A message cut at a block's end is chained part by part. Assumes nothing.
-use Rattle.std.proofs.Common.{◌≡◌, ℕ, zero, suc, ◌+◌, ◌-◌, ◌*◌, ◌/◌, ◌^◌, ◌<◌, ◌≤◌, List, [], ◌∷◌, ◌++◌, length, take, drop, replicate, sym, refl, ap, ◌∙◌, append_assoc, add-zero, add-suc, arith, length-drop, take-append-drop, length-take}
+use Rattle.std.proofs.Common.{◌≡◌, ℕ, zero, suc, ◌+◌, ◌*◌, ◌≤◌, List, ◌++◌, length, take, drop, sym, refl, ap, ◌∙◌, add-zero, add-suc, arith, length-drop}
 use lib.Seq.{take-append-le}
 use Rattle.std.proofs.lemmas.List.{drop-append-le, drop_at, drop-drop}
-use Rattle.hash.specs.Meaning.{Meaning, step, chained}
+use Rattle.hash.specs.Meaning.{Meaning, chained}
 
 module _ (m : Meaning) (c k : List ℕ) where
   -- blocks of the front look at the front alone

@@ -1,5 +1,5 @@
 -- A hash after some rounds. Assumes nothing.
-use Rattle.std.proofs.Common.{◌≡◌, ℕ, zero, suc, ◌+◌, ◌-◌, ◌^◌, ◌<◌, sym, refl, ap, ◌∙◌, add-zero, add-suc, add-one, arith}
+use Rattle.std.proofs.Common.{◌≡◌, ℕ, zero, suc, ◌+◌, ◌^◌, ◌<◌, refl, ap, add-zero, add-suc, add-one, arith}
 use Rattle.hash.specs.Meter.{after, moved}
 
 module _ {H : Type 0} (next : H → H) where

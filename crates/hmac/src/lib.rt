@@ -53,8 +53,8 @@ fn keyed_chain<H: Hash>(
     chain: &mut [u32; 8],
 )
     requires { length key.now ≤ 64 }
-    ensures chain { chain.new ≡ after_block meaning (xored pad (filled_key key.now)) }
-    ensures meter { hash.new ≡ next hash.old }
+    ensures chain { chain.new ≡ after_block H.meaning (xored pad (filled_key key.now)) }
+    ensures meter { hash.new ≡ H.next hash.old }
 {
     lay_key(block, key);
     xor_all(block, pad);
@@ -65,8 +65,8 @@ fn keyed_chain<H: Hash>(
 // The record of a key: the chains after the filled key under each of the two pads.
 fn key_record<H: Hash>(hash: &mut H, block: &mut [u8; 64], key: &[u8]) -> KeyRecord
     requires { within keys (length key.now) ≡ true }
-    ensures made { Recorded meaning result key.now }
-    ensures meter { hash.new ≡ after next hash.old 2 }
+    ensures made { Recorded H.meaning result key.now }
+    ensures meter { hash.new ≡ after H.next hash.old 2 }
 {
     let mut record = blank_record();
     keyed_chain(hash, block, key, 0x36, &mut record.first);
@@ -76,7 +76,7 @@ fn key_record<H: Hash>(hash: &mut H, block: &mut [u8; 64], key: &[u8]) -> KeyRec
 
 // Ends the inner message and then the outer one, whose code stands first in the block.
 fn close_run<H: Hash>(hash: &mut H, run: &mut Run, block: &mut [u8; 64])
-    ensures { Closed next (hmac_face meaning) hash.old hash.new run.old block.new }
+    ensures { Closed H.next (hmac_face H.meaning) hash.old hash.new run.old block.new }
 {
     let fed = run.fed as u64;
     chain_end(hash, &mut run.chain, &[0; 8], &mut run.held, 64 + fed);

@@ -1,5 +1,5 @@
 -- The tag as the front of a chain's code. Assumes nothing.
-use Rattle.std.proofs.Common.{◌≡◌, ℕ, ◌*◌, ◌≤◌, true, List, ◌++◌, length, take, sym, refl, ap, ◌∙◌, arith, length-take}
+use Rattle.std.proofs.Common.{◌≡◌, ℕ, ◌*◌, ◌≤◌, true, List, ◌++◌, length, take, sym, ap, ◌∙◌, arith, length-take}
 use Rattle.std.proofs.lemmas.List.{take_at, take-take}
 use Rattle.hash.specs.Meaning.{Meaning, code}
 use Rattle.hash.proofs.Close.{code_sized}

@@ -1,5 +1,5 @@
 -- Lengths within a span. Assumes nothing.
-use Rattle.std.proofs.Common.{◌≡◌, ℕ, ◌≤◌, Bool, true, false, ◌&&◌, T, leb, sym, refl, ap, ◌∙◌, leb→le, le-leb, leb-true}
+use Rattle.std.proofs.Common.{◌≡◌, ℕ, ◌≤◌, Bool, true, false, ◌&&◌, leb, sym, refl, le-leb, leb-true}
 use Rattle.mac.specs.declared.Span.{Span}
 use Rattle.mac.specs.Face.{within}
 

@@ -1,6 +1,6 @@
 -- What the calls of an algorithm promise, over what it says of itself. A run that is begun but stands for no key
 -- and bytes may be answered freely, within `refused`, `turned`, `freed` and `past`. Assumes nothing.
-use Rattle.std.specs.Prelude.{◌≡◌, ℕ, ◌+◌, ◌-◌, ◌<◌, ◌≤◌, true, false, List, [], ◌++◌, length, take, drop, replicate, Ok, Err, Result}
+use Rattle.std.specs.Prelude.{◌≡◌, ℕ, ◌+◌, ◌-◌, ◌<◌, ◌≤◌, true, false, List, ◌++◌, length, take, drop, replicate, Ok, Err, Result}
 use Rattle.hash.specs.Meter.{after}
 use Rattle.mac.specs.declared.KeyRecord.{KeyRecord}
 use Rattle.mac.specs.declared.Run.{Run}

@@ -1,5 +1,5 @@
 -- A run that is fed piece by piece. Assumes nothing.
-use Rattle.std.specs.Prelude.{◌≡◌, ℕ, ◌+◌, ◌-◌, ◌*◌, ◌/◌, ◌%◌, ◌<◌, ◌≤◌, true, false, List, [], ◌++◌, length, take, drop, Ok, Err, Result}
+use Rattle.std.specs.Prelude.{◌≡◌, ℕ, ◌+◌, ◌-◌, ◌*◌, ◌/◌, ◌%◌, ◌<◌, ◌≤◌, true, false, List, ◌++◌, length, take, drop, Ok, Err, Result}
 use Rattle.hash.specs.Meaning.{Meaning, chained}
 use Rattle.hash.specs.Meter.{after}
 use Rattle.mac.specs.declared.Run.{Run}

@@ -136,7 +136,7 @@ fn feed_run<H: Hash>(
     most: u32,
     piece: &[u8],
 ) -> Result<(), Refusal>
-    ensures { Fed next meaning most hash.old hash.new run.old run.new added.now piece.now result }
+    ensures { Fed H.next H.meaning most hash.old hash.new run.old run.new added.now piece.now result }
 {
     if !run.begun {
         return Err(Refusal::NotBegun);
@@ -162,7 +162,7 @@ pub fn feed<H: Hash>(
     most: u32,
     piece: &[u8],
 ) -> Result<(), Refusal>
-    ensures { Fed next meaning most hash.old hash.new run.old run.new added.now piece.now result }
+    ensures { Fed H.next H.meaning most hash.old hash.new run.old run.new added.now piece.now result }
 {
     feed_run(hash, run, added, most, piece)
 }

@@ -11,8 +11,8 @@ use mac::{KeyRecord, blank_record};
 
 // A round with no added words in force.
 fn plain_round<H: Hash>(hash: &mut H, chain: &mut [u32; 8], block: &[u8; 64])
-    ensures chain { chain.new ≡ step meaning chain.old none block.now }
-    ensures meter { hash.new ≡ next hash.old }
+    ensures chain { chain.new ≡ step H.meaning chain.old none block.now }
+    ensures meter { hash.new ≡ H.next hash.old }
 {
     hash.round(chain, &[0; 8], block);
 }
@@ -27,8 +27,8 @@ fn mixed_chain<H: Hash>(
 )
     requires some { 1 ≤ length key.now }
     requires few { i < 3 }
-    ensures chain { chain.new ≡ mixed meaning i key.now }
-    ensures meter { hash.new ≡ after next hash.old 2 }
+    ensures chain { chain.new ≡ mixed H.meaning i key.now }
+    ensures meter { hash.new ≡ after H.next hash.old 2 }
 {
     *chain = H::first_chain();
     put_key(block, 0, key);
@@ -41,7 +41,7 @@ fn mixed_chain<H: Hash>(
 
 // Keeps the added words of a chain, and zeros to eight words.
 fn keep_added<H: Hash>(words: &mut [u32; 8])
-    ensures { words.new ≡ take meaning.added words.old ++ replicate (8 - meaning.added) 0 }
+    ensures { words.new ≡ take H.meaning.added words.old ++ replicate (8 - H.meaning.added) 0 }
 {
     let n = H::shape_of().added;
     words[n..8].fill(0);
@@ -56,7 +56,7 @@ fn front_bytes(block: &[u8; 64], bytes: &mut [u8; 16])
 
 // The first 16 bytes of a chain's code, worked out in the block.
 fn code_bytes<H: Hash>(chain: &[u32; 8], block: &mut [u8; 64], bytes: &mut [u8; 16])
-    ensures { bytes.new ≡ take 16 (code meaning chain.now) }
+    ensures { bytes.new ≡ take 16 (code H.meaning chain.now) }
 {
     write_code::<H>(chain, block);
     front_bytes(block, bytes);
@@ -65,8 +65,8 @@ fn code_bytes<H: Hash>(chain: &[u32; 8], block: &mut [u8; 64], bytes: &mut [u8; 
 // K0, K1 and K2 of a key. The place of K1 serves for the chain that K2 is taken from.
 pub(crate) fn key_record<H: Hash>(hash: &mut H, block: &mut [u8; 64], key: &[u8]) -> KeyRecord
     requires { within keys (length key.now) ≡ true }
-    ensures made { Recorded meaning result key.now }
-    ensures meter { hash.new ≡ after next hash.old 6 }
+    ensures made { Recorded H.meaning result key.now }
+    ensures meter { hash.new ≡ after H.next hash.old 6 }
 {
     let mut record = blank_record();
     mixed_chain(hash, block, key, 2, &mut record.second);

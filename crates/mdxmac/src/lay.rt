@@ -40,7 +40,7 @@ fn mix_bytes(block: &mut [u8; 64], at: usize, with: &[u8; 16])
 pub(crate) fn put_strings<H: Hash>(block: &mut [u8; 64], at: usize, i: usize)
     requires place { at ≤ 16 }
     requires few { i < 3 }
-    ensures { block.new ≡ put at (three meaning i) block.old }
+    ensures { block.new ≡ put at (three H.meaning i) block.old }
 {
     put_bytes(block, at, &H::string(i));
     put_bytes(block, at + 16, &H::string(i + 1));
@@ -49,7 +49,7 @@ pub(crate) fn put_strings<H: Hash>(block: &mut [u8; 64], at: usize, i: usize)
 
 // The last block of a long message: 16 bytes, and each string under them.
 pub(crate) fn lay_last<H: Hash>(block: &mut [u8; 64], bytes: &[u8; 16])
-    ensures { block.new ≡ last meaning bytes.now }
+    ensures { block.new ≡ last H.meaning bytes.now }
 {
     put_bytes(block, 0, bytes);
     put_strings::<H>(block, 16, 0);

@@ -30,7 +30,7 @@ const MOST_SHORT: u32 = 32;
 
 // Ends the message and makes the last round; the chain's code stands first in the block.
 fn close_run<H: Hash>(hash: &mut H, run: &mut Run, block: &mut [u8; 64])
-    ensures { Closed next (mdx_face meaning) hash.old hash.new run.old block.new }
+    ensures { Closed H.next (mdx_face H.meaning) hash.old hash.new run.old block.new }
 {
     let fed = run.fed as u64;
     chain_end(hash, &mut run.chain, &run.second, &mut run.held, fed);
@@ -41,7 +41,7 @@ fn close_run<H: Hash>(hash: &mut H, run: &mut Run, block: &mut [u8; 64])
 
 // Makes the one round of a short message; the chain's code stands first in the block.
 fn close_short<H: Hash>(hash: &mut H, run: &mut Run, block: &mut [u8; 64])
-    ensures { Closed next (short_face meaning) hash.old hash.new run.old block.new }
+    ensures { Closed H.next (short_face H.meaning) hash.old hash.new run.old block.new }
 {
     let n = run.fed.min(MOST_SHORT);
     lay_short(block, &run.bytes, &run.held, n);

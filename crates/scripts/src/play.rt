@@ -46,7 +46,7 @@ fn refusal_over<H: Hash + Drop>(
     t: usize,
     address: u16,
 ) -> Option<Refusal>
-    ensures { result ≡ first_refusal (making_q (face_of algorithm meaning) meaning.added t address) }
+    ensures { result ≡ first_refusal (making_q (face_of algorithm H.meaning) H.meaning.added t address) }
 {
     match algorithm {
         AlgorithmKind::OfMdxMac => refusal_with::<H, MdxMac>(hash, t, address),
@@ -95,7 +95,7 @@ fn run_over<H: Hash + Drop>(
     making: Making,
     calls: &[Call<'_>],
 ) -> Result<Log, AllocError>
-    ensures { IfOk result (λ l. Logged (face_of algorithm meaning) meaning.added making.t making.address (reading hash) calls.now l.answers.items l.reports.items) }
+    ensures { IfOk result (λ l. Logged (face_of algorithm H.meaning) H.meaning.added making.t making.address (H.reading hash) calls.now l.answers.items l.reports.items) }
 {
     let mut work = [0u8; 64];
     let (t, address) = (making.t, making.address);

@@ -140,10 +140,10 @@ fn answer_by<H: Hash>(
     out: &mut [u8],
     work: &mut [u8; 64],
 ) -> Result<u64, Refusal>
-    requires { reading hash.old ≡ 0 }
-    ensures answer { result ≡ asked (face_of algorithm meaning) meaning.added t (length key.now) (length message.now) (length out.old) }
-    ensures tag { out.new ≡ written result ((face_of algorithm meaning).tag key.now message.now t) t out.old }
-    ensures long { Long result ((face_of algorithm meaning).tag key.now message.now t) t (length out.old) }
+    requires { H.reading hash.old ≡ 0 }
+    ensures answer { result ≡ asked (face_of algorithm H.meaning) H.meaning.added t (length key.now) (length message.now) (length out.old) }
+    ensures tag { out.new ≡ written result ((face_of algorithm H.meaning).tag key.now message.now t) t out.old }
+    ensures long { Long result ((face_of algorithm H.meaning).tag key.now message.now t) t (length out.old) }
 {
     match algorithm {
         AlgorithmKind::OfMdxMac => answer::<H, MdxMac>(hash, t, key, message, out, work),

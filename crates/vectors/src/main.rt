@@ -68,7 +68,7 @@ fn begins(place: &[u8; 32], n: usize, bytes: &[u8]) -> bool
 
 // Whether a message has this code. Where it has, that is the code by the definition.
 fn has_code<H: Hash>(hash: &mut H, message: &[u8], code: &[u8]) -> bool
-    ensures { result ≡ true → code.now ≡ hashed meaning message.now }
+    ensures { result ≡ true → code.now ≡ hashed H.meaning message.now }
 {
     let mut out = [0; 32];
     hash_message(hash, message, &mut out);

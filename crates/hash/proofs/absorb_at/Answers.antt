@@ -1,4 +1,4 @@
-use Rattle.std.proofs.Common.{◌≡◌, ℕ, ◌-◌, ◌≤◌, List, length, sym, refl, ap, ◌∙◌, subst, arith, rules}
+use Rattle.std.proofs.Common.{◌≡◌, ℕ, ◌-◌, ◌≤◌, length, sym, ap, ◌∙◌, subst, arith, rules}
 use Rattle.hash.specs.Meaning.{chained}
 use Rattle.hash.specs.Held.{joined, whole_blocks, kept_of}
 use Rattle.hash.specs.Meter.{after}

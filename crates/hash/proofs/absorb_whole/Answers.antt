@@ -1,6 +1,6 @@
 use Rattle.std.proofs.Common.{◌≡◌, ℕ, ◌*◌, ◌/◌, ◌≤◌, List, length, drop, ap, ◌∙◌, mul_comm, arith, rules}
 use Rattle.std.proofs.lemmas.List.{take_rest}
-use Rattle.hash.specs.Held.{rest_of, filled, laid_over}
+use Rattle.hash.specs.Held.{rest_of, filled}
 use Rattle.hash.proofs.Gather.{from_start, rest_sized}
 use Rattle.hash.proofs.absorb_whole.Goals as goal
 

@@ -1,5 +1,5 @@
-use Rattle.std.proofs.Common.{◌≡◌, ℕ, ◌+◌, ◌-◌, ◌*◌, ◌/◌, ◌%◌, ◌^◌, ◌<◌, ◌≤◌, List, ◌++◌, length, take, drop, sym, refl, ap, ◌∙◌, mul_comm, arith, rules}
-use Rattle.hash.specs.Meaning.{chained, eight, step}
+use Rattle.std.proofs.Common.{◌≡◌, ℕ, ◌*◌, ◌%◌, ◌^◌, List, ◌++◌, length, take, refl, ap, ◌∙◌, mul_comm, rules}
+use Rattle.hash.specs.Meaning.{eight, step}
 use Rattle.hash.proofs.Close.{close_one, close_two, block_one, block_two, turns_one, turns_two, eight_wraps}
 use Rattle.hash.proofs.close_at.Goals as goal
 use Rattle.hash.proofs.close_at.Goals.{then-at-ge56, else-at-ge56}

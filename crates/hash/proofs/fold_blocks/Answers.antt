@@ -1,4 +1,4 @@
-use Rattle.std.proofs.Common.{◌≡◌, ℕ, ◌+◌, ◌*◌, ◌<◌, sym, refl, ap, ◌∙◌}
+use Rattle.std.proofs.Common.{sym, refl, ap, ◌∙◌}
 use Rattle.hash.proofs.Chain.{chained_more}
 use Rattle.hash.proofs.Turns.{after_none, after_more}
 use Rattle.hash.proofs.fold_blocks.Goals as goal

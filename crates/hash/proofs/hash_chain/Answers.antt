@@ -1,4 +1,4 @@
-use Rattle.std.proofs.Common.{◌≡◌, ℕ, ◌*◌, ◌/◌, ◌%◌, List, length, take, drop, replicate, sym, refl, ap, ◌∙◌}
+use Rattle.std.proofs.Common.{◌≡◌, ℕ, ◌*◌, ◌/◌, ◌%◌, List, length, take, drop, replicate, refl, ap, ◌∙◌}
 use Rattle.hash.specs.Meaning.{none, chained}
 use Rattle.hash.specs.Meter.{after}
 use Rattle.hash.proofs.Gather.{empty_blocks, empty_held}

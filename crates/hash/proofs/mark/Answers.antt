@@ -1,4 +1,4 @@
-use Rattle.std.proofs.Common.{◌≡◌, ◌+◌, ◌-◌, ◌<◌, length, arith, length-drop, length-set, length-take, rules}
+use Rattle.std.proofs.Common.{◌≡◌, length, arith, length-drop, length-set, length-take, rules}
 use Rattle.hash.proofs.Close.{marked}
 use Rattle.hash.proofs.mark.Goals as goal
 

@@ -1,4 +1,4 @@
-use Rattle.std.proofs.Common.{◌≡◌, ℕ, ◌+◌, ◌-◌, ◌*◌, ◌<◌, List, ◌++◌, length, get_or, take, drop, ap, ◌∙◌, arith, rules}
+use Rattle.std.proofs.Common.{◌≡◌, ℕ, ◌*◌, ◌<◌, ◌++◌, length, get_or, take, drop, ap, ◌∙◌, arith, rules}
 use Rattle.hash.specs.Meaning.{four, bytes_of}
 use Rattle.hash.proofs.Close.{code_more, code_sized}
 use Rattle.hash.proofs.put_code.Goals as goal

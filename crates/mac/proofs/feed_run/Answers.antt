@@ -1,5 +1,5 @@
 use borrow.Author.Tests.{both_ways}
-use Rattle.std.proofs.Common.{◌≡◌, ℕ, ◌+◌, ◌-◌, ◌*◌, ◌/◌, ◌%◌, ◌<◌, ◌≤◌, List, ◌++◌, length, take, drop, sym, refl, ap, ◌∙◌, arith, length-append, rules}
+use Rattle.std.proofs.Common.{◌≡◌, ℕ, ◌+◌, ◌-◌, ◌*◌, ◌/◌, ◌%◌, ◌<◌, ◌++◌, length, take, drop, sym, refl, ap, ◌∙◌, arith, length-append, rules}
 use Rattle.hash.specs.Meaning.{chained}
 use Rattle.hash.specs.Meter.{after}
 use Rattle.hash.proofs.Gather.{kept_front}

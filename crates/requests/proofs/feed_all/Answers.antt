@@ -10,7 +10,7 @@ loop-chunk-init c = fed_none c.args.lines.now (vec_items c.args.out.now)
 
 pub loop-chunk-preserved : goal.loop-chunk-preserved
 loop-chunk-preserved c =
-    fed_chunk c.args.lines.now c.loop-chunk.lines c.feed.new.self (vec_items c.args.out.now) (vec_items c.loop-chunk.out) (vec_items c.feed.new.out) c.args.chunks.now c.loop-chunk.chunk-index _ c.loop-chunk-test.true c.loop-chunk.invariant c.in-default.ensures
+    fed_chunk c.args.lines.now c.loop-chunk.lines c.feed.new.self (vec_items c.args.out.now) (vec_items c.loop-chunk.out) (vec_items c.feed.new.out) c.args.chunks.now c.loop-chunk.chunk-index _ c.loop-chunk-test.true c.loop-chunk.invariant c.in_default.ensures
 
 pub returns : goal.returns
 returns c =

@@ -11,9 +11,9 @@ returns-then-text-ne0 c =
 pub loop-i-init : goal.loop-i-init
 loop-i-init c = (pairs_begin c.args.text.now _ refl, search rules)
 
-pub returns-in-default : goal.returns-in-default
-returns-in-default c =
-    record { value = pair_not c.args.text.now _ c.loop-i.i (omega arith) c.in-default.ensures c.loop-i.invariant.0; within = tt }
+pub returns-in_default : goal.returns-in_default
+returns-in_default c =
+    record { value = pair_not c.args.text.now _ c.loop-i.i (omega arith) c.in_default.ensures c.loop-i.invariant.0; within = tt }
 
 pub loop-i-preserved : goal.loop-i-preserved
 loop-i-preserved c = (

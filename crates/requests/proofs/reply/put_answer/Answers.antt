@@ -2,8 +2,8 @@ use Rattle.std.proofs.Common.{◌-◌, arith, length-take, rules}
 use Rattle.requests.proofs.Answer.{answer_ok, answer_err}
 use Rattle.requests.proofs.reply.put_answer.Goals as goal
 
-pub slice-bounds-put_tag-end : goal.slice-bounds-put_tag-end
-slice-bounds-put_tag-end c =
+pub slice_bounds-put_tag-end : goal.slice_bounds-put_tag-end
+slice_bounds-put_tag-end c =
     let short = c.in-Ok.ensures.long.1 in
     search rules
 

@@ -7,7 +7,7 @@ loop-b-init c = fed_none c.args.self.now (vec_items c.args.out.now)
 
 pub loop-b-preserved : goal.loop-b-preserved
 loop-b-preserved c =
-    fed_more c.args.self.now c.loop-b.self c.step.new.self (vec_items c.args.out.now) (vec_items c.loop-b.out) (vec_items c.step.new.out) c.args.chunk.now c.loop-b.b-index c.loop-b-test.true c.loop-b.invariant c.in-default.ensures
+    fed_more c.args.self.now c.loop-b.self c.step.new.self (vec_items c.args.out.now) (vec_items c.loop-b.out) (vec_items c.step.new.out) c.args.chunk.now c.loop-b.b-index c.loop-b-test.true c.loop-b.invariant c.in_default.ensures
 
 pub returns-in-Err : goal.returns-in-Err
 returns-in-Err c = (

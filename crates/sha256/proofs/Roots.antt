@@ -1,5 +1,5 @@
 -- Each of SHA-256's constants is a cube root's fraction: one test over the table. Assumes nothing.
-use Rattle.std.proofs.Common.{◌≡◌, ℕ, zero, suc, ◌+◌, ◌*◌, ◌^◌, ◌<◌, ◌≤◌, Bool, true, false, cond, T, ltb, leb, List, [], ◌∷◌, length, get_or, sym, subst, ltb→lt, leb→le}
+use Rattle.std.proofs.Common.{◌≡◌, ℕ, zero, suc, ◌+◌, ◌*◌, ◌^◌, ◌<◌, Bool, cond, T, ltb, leb, get_or, sym, subst, ltb→lt, leb→le}
 use Rattle.sha256.specs.Primes.{prime, primes, CubeRoot}
 use Rattle.sha256.specs.Round.{constant, constants}
 use Rattle.sha256.proofs.Every.{at, both, both_left, both_right}

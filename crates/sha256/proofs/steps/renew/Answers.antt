@@ -1,4 +1,4 @@
-use Rattle.std.proofs.Common.{◌≡◌, ℕ, ◌+◌, ◌-◌, ◌%◌, arith}
+use Rattle.std.proofs.Common.{◌≡◌, ◌+◌, ◌-◌, ◌%◌, arith}
 use Rattle.hash.specs.Rounds.{renewed}
 use Rattle.sha256.specs.Round.{later}
 use Rattle.sha256.proofs.steps.renew.Goals as goal

@@ -3,4 +3,4 @@ use Rattle.sha256.proofs.Rotations.{big0}
 use Rattle.sha256.proofs.words.big_sigma0.Goals as goal
 
 pub returns : goal.returns
-returns c = c.nested-big0.ensures ∙ big0 c.args.x (omega arith)
+returns c = c.nested_big0.ensures ∙ big0 c.args.x (omega arith)

@@ -1,5 +1,5 @@
 -- SHA-1's round, as FIPS 180-4 has it, on words of 32 bits, with a word added to each step constant. Assumes nothing.
-use Rattle.std.specs.Prelude.{ℕ, zero, suc, ◌+◌, ◌-◌, ◌/◌, List, [], ◌∷◌, bit_xor, slice_index, slice_index_or}
+use Rattle.std.specs.Prelude.{ℕ, zero, suc, ◌-◌, ◌/◌, List, [], ◌∷◌, bit_xor, slice_index, slice_index_or}
 use Rattle.hash.specs.declared.ByteOrder.TheVariants.{HighFirst}
 use Rattle.hash.specs.Words.{plus, rotl, words}
 use Rattle.hash.specs.Rounds.{ch, maj, extended, steps, sums}

@@ -1,4 +1,4 @@
-use Rattle.std.proofs.Common.{◌≡◌, ℕ, ◌+◌, ◌-◌, ◌%◌, arith}
+use Rattle.std.proofs.Common.{◌≡◌, ◌+◌, ◌-◌, ◌%◌, arith}
 use Rattle.hash.specs.Words.{rotl}
 use Rattle.hash.specs.Rounds.{renewed}
 use Rattle.sha_1.specs.Round.{later}

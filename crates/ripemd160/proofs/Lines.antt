@@ -1,12 +1,5 @@
 -- One step more of a row, and the words of a chain. Assumes nothing.
-use mathlib.Core.Path.{◌≡◌, refl, ap, ◌∙◌}
-use mathlib.Core.Bool.{Bool}
-use mathlib.Core.List.{List, [], ◌∷◌, ◌++◌}
-use Prim.Native.Nat.{ℕ, zero, suc, ◌+◌}
-use native.Mathlib.Nat.{add-zero, add-suc, add_assoc}
-use native.Mathlib.Numerals.{add-one}
-use native.Mathlib.Omega.{arith}
-use lib.ListN.{length, get_or, set, drop}
+use Rattle.std.proofs.Common.{◌≡◌, ℕ, zero, suc, ◌+◌, Bool, List, [], ◌∷◌, ◌++◌, length, get_or, drop, set, refl, ap, ◌∙◌, add-zero, add_assoc, add-suc, add-one, arith}
 use Rattle.ripemd160.specs.Round.{turned, steps}
 
 pub steps_more : (right : Bool) (r k : ℕ) (xs s was is : List ℕ) (from i : ℕ) → was ≡ steps right r k xs s from i →

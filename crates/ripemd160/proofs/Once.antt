@@ -1,13 +1,5 @@
 -- Each digit stands once in each row: one test over the whole table. Assumes nothing.
-use mathlib.Core.Bool.{Bool, true, false}
-use mathlib.Core.List.{List}
-use mathlib.Core.Path.{◌≡◌}
-use Prim.Native.Nat.{ℕ, zero, suc, ◌*◌, ◌<◌}
-use native.Mathlib.Nat.{le_of_suc-le-suc, eq-or-lt_of_le}
-use native.Mathlib.Omega.{arith}
-use lib.Dec.{T, eqb, ltb, eqb→eq, ltb→lt}
-use lib.ListN.{take, drop, get_or}
-use mathlib.Core.Logic.{◌⊎◌, ⊎_elim}
+use Rattle.std.proofs.Common.{◌≡◌, ℕ, zero, suc, ◌*◌, ◌<◌, Bool, true, false, T, eqb, ltb, ◌⊎◌, List, get_or, take, drop, ⊎_elim, le_of_suc-le-suc, eq-or-lt_of_le, arith, eqb→eq, ltb→lt}
 use Rattle.ripemd160.specs.Orders.{count, EachOnce, order}
 
 abbrev both : Bool → Bool → Bool

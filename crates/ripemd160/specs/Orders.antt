@@ -1,5 +1,5 @@
 -- The order in which each line takes the words of a block, and the places by which each of its steps rotates: a row of sixteen steps to a line of text. Assumes nothing.
-use Rattle.std.specs.Prelude.{ℕ, ◌+◌, ◌*◌, ◌<◌, Bool, true, false, cond, List, [], ◌∷◌, ◌≡◌, eqb, take, drop}
+use Rattle.std.specs.Prelude.{ℕ, ◌+◌, ◌*◌, ◌<◌, Bool, true, false, cond, List, [], ◌∷◌, ◌≡◌, ◌==◌, take, drop}
 
 abbrev pub order_left : List ℕ
 order_left =
@@ -45,7 +45,7 @@ shift true = shift_right
 -- how often x stands in a list
 abbrev pub count : ℕ → List ℕ → ℕ
 count x [] = 0
-count x (y ∷ ys) = cond (eqb x y) (1 + count x ys) (count x ys)
+count x (y ∷ ys) = cond (x == y) (1 + count x ys) (count x ys)
 
 -- each of the five rows of sixteen holds every digit from 0 to 15 once
 abbrev pub EachOnce : List ℕ → Type 0

@@ -1,7 +1,6 @@
 -- The round of RIPEMD-160, as ISO/IEC 10118-3 has it: two lines of eighty steps on the same block, joined with the old chain.
 -- Words of MDx-MAC may be added to the constants of the steps; the plain hash adds zeros. Assumes nothing.
-use Rattle.std.specs.Prelude.{ℕ, zero, suc, ◌+◌, ◌*◌, ◌%◌, Bool, true, false, List, [], ◌∷◌, get_or}
-use Rattle.std.specs.Int.Bits.{bit_and, bit_or, bit_xor}
+use Rattle.std.specs.Prelude.{ℕ, zero, suc, ◌+◌, ◌*◌, ◌%◌, Bool, true, false, List, [], ◌∷◌, bit_and, bit_or, bit_xor, slice_index, slice_index_or}
 use Rattle.hash.specs.Words.{plus, negated, rotl, words}
 use Rattle.hash.specs.declared.ByteOrder.TheVariants.{LowFirst}
 use Rattle.ripemd160.specs.Orders.{order, shift}
@@ -33,19 +32,19 @@ which true r = (r + 1) % 4
 
 -- the constant of row r with its added word
 abbrev pub key : Bool → List ℕ → ℕ → ℕ
-key right added r = plus (get_or (constants right) r 0) (get_or added (which right r) 0)
+key right added r = plus (slice_index (constants right) r) (slice_index added (which right r))
 
 -- one step on five words: its function, its word of the block, its constant and its rotation
 abbrev pub stepped : List ℕ → Mixer → ℕ → ℕ → ℕ → List ℕ
 stepped s j x k n =
-    get_or s 4 0 ∷
-    plus (rotl n (plus (plus (plus (get_or s 0 0) (mix j (get_or s 1 0) (get_or s 2 0) (get_or s 3 0))) x) k)) (get_or s 4 0) ∷
-    get_or s 1 0 ∷ rotl 10 (get_or s 2 0) ∷ get_or s 3 0 ∷ []
+    slice_index s 4 ∷
+    plus (rotl n (plus (plus (plus (slice_index s 0) (mix j (slice_index s 1) (slice_index s 2) (slice_index s 3))) x) k)) (slice_index s 4) ∷
+    slice_index s 1 ∷ rotl 10 (slice_index s 2) ∷ slice_index s 3 ∷ []
 
 -- step i of row r, with the constant k, on the words xs of a block
 abbrev pub turned : Bool → ℕ → ℕ → List ℕ → List ℕ → ℕ → List ℕ
 turned right r k xs s i =
-    stepped s (get_or (mixers right) r Parity) (get_or xs (get_or (order right) (16 * r + i) 0) 0) k (get_or (shift right) (16 * r + i) 0)
+    stepped s (slice_index_or (mixers right) r Parity) (slice_index xs (slice_index (order right) (16 * r + i))) k (slice_index (shift right) (16 * r + i))
 
 -- n steps of row r, from step `from` on
 unfoldable pub steps : Bool → ℕ → ℕ → List ℕ → List ℕ → ℕ → ℕ → List ℕ
@@ -68,11 +67,11 @@ line right added xs s = rows right added xs s 5
 -- the chain h with the ends of the two lines
 abbrev pub joined : List ℕ → List ℕ → List ℕ → List ℕ
 joined h l r =
-    plus (plus (get_or h 1 0) (get_or l 2 0)) (get_or r 3 0) ∷
-    plus (plus (get_or h 2 0) (get_or l 3 0)) (get_or r 4 0) ∷
-    plus (plus (get_or h 3 0) (get_or l 4 0)) (get_or r 0 0) ∷
-    plus (plus (get_or h 4 0) (get_or l 0 0)) (get_or r 1 0) ∷
-    plus (plus (get_or h 0 0) (get_or l 1 0)) (get_or r 2 0) ∷ []
+    plus (plus (slice_index h 1) (slice_index l 2)) (slice_index r 3) ∷
+    plus (plus (slice_index h 2) (slice_index l 3)) (slice_index r 4) ∷
+    plus (plus (slice_index h 3) (slice_index l 4)) (slice_index r 0) ∷
+    plus (plus (slice_index h 4) (slice_index l 0)) (slice_index r 1) ∷
+    plus (plus (slice_index h 0) (slice_index l 1)) (slice_index r 2) ∷ []
 
 abbrev pub round160 : List ℕ → List ℕ → List ℕ → List ℕ
 round160 chain added block =

@@ -1,11 +1,10 @@
 // The steps of RIPEMD-160: two lines of eighty on the sixteen words of a block, each in five rows of sixteen.
 // A flag tells the lines apart: true is the right one. It and the row are const parameters, so that a row is compiled with the
 // entries of its tables as constants. So is `KEYED`: a row without added words takes the constants of its steps as they stand.
-ghost use Rattle.std.specs.Prelude.{◌≡◌, true, false, ◌+◌, ◌<◌, ◌≤◌, get_or, take};
-ghost use Rattle.std.specs.Int.Bits.{bit_and, bit_or};
+ghost use Rattle.std.specs.Prelude.{◌≡◌, true, false, ◌+◌, ◌<◌, ◌≤◌, take, bit_and, bit_or, slice_index};
 ghost use Rattle.hash.specs.Words.{plus, negated, rotl, blank};
 ghost use Rattle.ripemd160.specs.Orders.{order as order_of};
-ghost use Rattle.ripemd160.specs.Round.{mix as mixOf, which as whichOf, key as keyOf, stepped, turned, steps, row as rowOf};
+ghost use Rattle.ripemd160.specs.Round.{mix as mixed, which as which_word, key as row_key, stepped, turned, steps, row as whole_row};
 
 use super::tables::{constant_at, mixer_at, order_at, shift_at};
 
@@ -49,7 +48,7 @@ pub(crate) enum Mixer {
 }
 
 fn mix(j: Mixer, x: u32, y: u32, z: u32) -> u32
-    ensures { result ≡ mixOf j x y z }
+    ensures { result ≡ mixed j x y z }
 {
     match j {
         Mixer::Parity => x ^ y ^ z,
@@ -72,7 +71,7 @@ fn one_step(s: [u32; 5], j: Mixer, x: u32, k: u32, n: u32) -> [u32; 5]
 // Which added word goes onto the constant of row r.
 fn which(right: bool, r: usize) -> usize
     requires { r < 5 }
-    ensures { result ≡ whichOf right r }
+    ensures { result ≡ which_word right r }
 {
     if right { (r + 1) % 4 } else { r % 4 }
 }
@@ -80,7 +79,7 @@ fn which(right: bool, r: usize) -> usize
 // The constant of row r with its added word.
 fn key(right: bool, added: &[u32; 8], r: usize) -> u32
     requires { r < 5 }
-    ensures { result ≡ keyOf right (take 4 added.now) r }
+    ensures { result ≡ row_key right (take 4 added.now) r }
 {
     sum(constant_at(right, r), added[which(right, r)])
 }
@@ -89,7 +88,7 @@ fn key(right: bool, added: &[u32; 8], r: usize) -> u32
 fn key_of<const KEYED: bool>(right: bool, added: &[u32; 8], r: usize) -> u32
     requires row { r < 5 }
     requires plain { KEYED ≡ false → blank added.now ≡ true }
-    ensures { result ≡ keyOf right (take 4 added.now) r }
+    ensures { result ≡ row_key right (take 4 added.now) r }
 {
     if KEYED {
         key(right, added, r)
@@ -101,7 +100,7 @@ fn key_of<const KEYED: bool>(right: bool, added: &[u32; 8], r: usize) -> u32
 // The word of the block that step t of a line takes.
 fn word_at(right: bool, xs: &[u32; 16], t: usize) -> u32
     requires { t < 80 }
-    ensures { result ≡ get_or xs.now (get_or (order_of right) t 0) 0 }
+    ensures { result ≡ slice_index xs.now (slice_index (order_of right) t) }
 {
     xs[order_at(right, t)]
 }
@@ -155,8 +154,8 @@ pub(crate) fn row_of<const R: usize, const KEYED: bool>(
 )
     requires row { R < 5 }
     requires plain { KEYED ≡ false → blank added.now ≡ true }
-    ensures left { l.new ≡ rowOf false (take 4 added.now) xs.now l.old R }
-    ensures right { r.new ≡ rowOf true (take 4 added.now) xs.now r.old R }
+    ensures left { l.new ≡ whole_row false (take 4 added.now) xs.now l.old R }
+    ensures right { r.new ≡ whole_row true (take 4 added.now) xs.now r.old R }
 {
     let kl = key_of::<KEYED>(false, added, R);
     let kr = key_of::<KEYED>(true, added, R);
@@ -172,8 +171,8 @@ pub(crate) fn row<const R: usize>(
     xs: &[u32; 16],
 )
     requires { R < 5 }
-    ensures left { l.new ≡ rowOf false (take 4 added.now) xs.now l.old R }
-    ensures right { r.new ≡ rowOf true (take 4 added.now) xs.now r.old R }
+    ensures left { l.new ≡ whole_row false (take 4 added.now) xs.now l.old R }
+    ensures right { r.new ≡ whole_row true (take 4 added.now) xs.now r.old R }
 {
     row_of::<R, true>(l, r, added, xs);
 }

@@ -1,6 +1,6 @@
 // The tables of RIPEMD-160: for each of the two lines five rows of sixteen steps, and what each row has of its own.
 // Each row of an order holds every digit from 0 to 15 once: `order` states it of the tables that the steps read.
-ghost use Rattle.std.specs.Prelude.{◌≡◌, ◌<◌, get_or};
+ghost use Rattle.std.specs.Prelude.{◌≡◌, ◌<◌, slice_index, slice_index_or};
 ghost use Rattle.ripemd160.specs.declared.steps.Mixer.TheVariants.{Parity};
 ghost use Rattle.ripemd160.specs.Orders.{order as order_of, shift as shift_of, EachOnce};
 ghost use Rattle.ripemd160.specs.Round.{mixers, constants};
@@ -72,7 +72,7 @@ const CONSTANTS_RIGHT: [u32; 5] = [0x50a28be6, 0x5c4dd124, 0x6d703ef3, 0x7a6d76e
 // What a line has at row r or step t: the right line where the flag is true.
 pub(crate) fn mixer_at(right: bool, r: usize) -> Mixer
     requires { r < 5 }
-    ensures { result ≡ get_or (mixers right) r Parity }
+    ensures { result ≡ slice_index_or (mixers right) r Parity }
 {
     if right {
         MIXERS_RIGHT[r]
@@ -83,21 +83,21 @@ pub(crate) fn mixer_at(right: bool, r: usize) -> Mixer
 
 pub(crate) fn order_at(right: bool, t: usize) -> usize
     requires { t < 80 }
-    ensures { result ≡ get_or (order_of right) t 0 }
+    ensures { result ≡ slice_index (order_of right) t }
 {
     if right { ORDER_RIGHT[t] } else { ORDER_LEFT[t] }
 }
 
 pub(crate) fn shift_at(right: bool, t: usize) -> u32
     requires { t < 80 }
-    ensures { result ≡ get_or (shift_of right) t 0 }
+    ensures { result ≡ slice_index (shift_of right) t }
 {
     if right { SHIFT_RIGHT[t] } else { SHIFT_LEFT[t] }
 }
 
 pub(crate) fn constant_at(right: bool, r: usize) -> u32
     requires { r < 5 }
-    ensures { result ≡ get_or (constants right) r 0 }
+    ensures { result ≡ slice_index (constants right) r }
 {
     if right {
         CONSTANTS_RIGHT[r]

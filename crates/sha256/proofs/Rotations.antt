@@ -1,9 +1,10 @@
 -- Rotations to the right as sums; one goes through an exclusive or, and two make one. So the four sigmas come with
 -- fewer moves: each rotation but the first is of what the one before gave. Assumes nothing.
-use Rattle.std.proofs.Common.{◌≡◌, ℕ, ◌+◌, ◌*◌, ◌/◌, ◌%◌, ◌^◌, ◌<◌, sym, ap, ◌∙◌, ap₂, lt_of_le_of_lt, add-zero, add_assoc, mod-lt, mul_assoc, mul_comm, add-mul, add_comm, arith, pow_pos, pow-add, shr-shr, shr_lt}
-use native.Mathlib.Nat.{mul-mod_left}
-use lib.Bits.{bit_or, bit_xor, or_lt, or_shifted_r, xor_lt, xor_block, xor_shr, xor_mod, xor_comm, xor_assoc}
-use lib.Pow.{shl-shr, shr_le, split, high, low, mod-pow-add}
+use Rattle.std.proofs.Common.{◌≡◌, ℕ, ◌+◌, ◌*◌, ◌/◌, ◌%◌, ◌^◌, ◌<◌, bit_or, bit_xor, sym, ap, ◌∙◌, ap₂, lt_of_le_of_lt, add-zero, add_assoc, mod-lt, mul_assoc, mul_comm, add-mul, add_comm, arith, pow_pos, pow-add, shr-shr, shr_lt}
+use Rattle.std.proofs.Math.Nat.{mul-mod_left}
+use Rattle.std.proofs.Math.Pow.{split, high, low}
+use Rattle.std.proofs.lemmas.Nat.{shl-shr, shr_le, mod-pow-add, or_lt, xor_lt, xor_block, xor_shr, xor_mod, xor_comm}
+use Rattle.std.specs.Int.Bits.{or_shifted_r, xor_assoc}
 use Rattle.sha256.specs.Round.{rotr, shr, Sigma0, Sigma1, sigma0, sigma1}
 
 -- a rotation to the right by k places in a word of j + k bits

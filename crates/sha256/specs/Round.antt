@@ -1,5 +1,5 @@
 -- SHA-256's round, as FIPS 180-4 has it, on words of 32 bits. Assumes nothing.
-use Rattle.std.specs.Prelude.{ℕ, ◌-◌, ◌*◌, ◌/◌, ◌%◌, ◌^◌, List, [], ◌∷◌, bit_or, bit_xor, slice_index, slice_index_or}
+use Rattle.std.specs.Prelude.{ℕ, ◌-◌, ◌*◌, ◌/◌, ◌%◌, ◌^◌, List, [], ◌∷◌, bit_or, bit_xor, slice_index}
 use Rattle.hash.specs.declared.ByteOrder.TheVariants.{HighFirst}
 use Rattle.hash.specs.Words.{plus, words}
 use Rattle.hash.specs.Rounds.{ch, maj, extended, steps, sums}
@@ -57,14 +57,14 @@ T2 a b c = plus (Sigma0 a) (maj a b c)
 -- one step on the eight words a to h, with the constant k and the word w
 unfoldable pub mixed : List ℕ → ℕ → ℕ → List ℕ
 mixed s k w =
-    let a = slice_index_or s 0 0 in
-    let b = slice_index_or s 1 0 in
-    let c = slice_index_or s 2 0 in
-    let d = slice_index_or s 3 0 in
-    let e = slice_index_or s 4 0 in
-    let f = slice_index_or s 5 0 in
-    let g = slice_index_or s 6 0 in
-    let h = slice_index_or s 7 0 in
+    let a = slice_index s 0 in
+    let b = slice_index s 1 in
+    let c = slice_index s 2 in
+    let d = slice_index s 3 in
+    let e = slice_index s 4 in
+    let f = slice_index s 5 in
+    let g = slice_index s 6 in
+    let h = slice_index s 7 in
     plus (T1 e f g h k w) (T2 a b c) ∷ a ∷ b ∷ c ∷ plus d (T1 e f g h k w) ∷ e ∷ f ∷ g ∷ []
 
 -- step t with its word w

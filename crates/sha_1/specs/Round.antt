@@ -1,5 +1,5 @@
 -- SHA-1's round, as FIPS 180-4 has it, on words of 32 bits, with a word added to each step constant. Assumes nothing.
-use Rattle.std.specs.Prelude.{ℕ, zero, suc, ◌-◌, ◌/◌, List, [], ◌∷◌, bit_xor, slice_index, slice_index_or}
+use Rattle.std.specs.Prelude.{ℕ, zero, suc, ◌-◌, ◌/◌, List, [], ◌∷◌, bit_xor, slice_index}
 use Rattle.hash.specs.declared.ByteOrder.TheVariants.{HighFirst}
 use Rattle.hash.specs.Words.{plus, rotl, words}
 use Rattle.hash.specs.Rounds.{ch, maj, extended, steps, sums}
@@ -33,20 +33,20 @@ schedule block = extended later (words HighFirst block 16) 64
 -- a step on the five words a to e in the quarter q, with the constant k: its sum before the word of the schedule is added
 unfoldable pub summed : List ℕ → ℕ → ℕ → ℕ
 summed s q k =
-    let a = slice_index_or s 0 0 in
-    let b = slice_index_or s 1 0 in
-    let c = slice_index_or s 2 0 in
-    let d = slice_index_or s 3 0 in
-    let e = slice_index_or s 4 0 in
+    let a = slice_index s 0 in
+    let b = slice_index s 1 in
+    let c = slice_index s 2 in
+    let d = slice_index s 3 in
+    let e = slice_index s 4 in
     plus (plus (plus (rotl 5 a) (logical q b c d)) e) k
 
 -- the five words after it, where T is the whole sum
 unfoldable pub shifted : List ℕ → ℕ → List ℕ
 shifted s T =
-    let a = slice_index_or s 0 0 in
-    let b = slice_index_or s 1 0 in
-    let c = slice_index_or s 2 0 in
-    let d = slice_index_or s 3 0 in
+    let a = slice_index s 0 in
+    let b = slice_index s 1 in
+    let c = slice_index s 2 in
+    let d = slice_index s 3 in
     T ∷ a ∷ rotl 30 b ∷ c ∷ d ∷ []
 
 -- one step with the word w

@@ -1,4 +1,4 @@
-use mathlib.Core.Path.{refl}
+use Rattle.std.proofs.Common.{refl}
 use Rattle.hash.specs.Words.{plus, negated, rotl, word, words}
 use Rattle.ripemd160.specs.Round.{steps, row}
 use Rattle.ripemd160.specs.Vectors.{ruled160}

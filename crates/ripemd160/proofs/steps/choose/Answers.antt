@@ -1,5 +1,5 @@
-use mathlib.Core.Path.{◌∙◌, ap₂}
-use lib.Bits.{bit_or, and_comm}
+use Rattle.std.proofs.Common.{bit_or, ◌∙◌, ap₂}
+use Rattle.std.proofs.lemmas.Nat.{and_comm}
 use Rattle.hash.specs.Words.{negated}
 use Rattle.ripemd160.proofs.Chosen.{chosen}
 use Rattle.ripemd160.proofs.steps.choose.Goals as goal

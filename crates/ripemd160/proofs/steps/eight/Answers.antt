@@ -1,5 +1,4 @@
-use mathlib.Core.Bool.{true, false}
-use mathlib.Core.Path.{refl}
+use Rattle.std.proofs.Common.{true, false, refl}
 use Rattle.ripemd160.specs.Round.{steps}
 use Rattle.ripemd160.proofs.Lines.{steps_more}
 use Rattle.ripemd160.proofs.steps.eight.Goals as goal

@@ -1,5 +1,4 @@
-use mathlib.Core.Bool.{true, false}
-use mathlib.Core.Path.{◌≡◌}
+use Rattle.std.proofs.Common.{◌≡◌, true, false}
 use Rattle.ripemd160.specs.Round.{steps}
 use Rattle.ripemd160.proofs.steps.eight.Given as goal
 

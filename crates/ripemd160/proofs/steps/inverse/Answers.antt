@@ -1,4 +1,4 @@
-use mathlib.Core.Path.{refl}
+use Rattle.std.proofs.Common.{refl}
 use Rattle.hash.specs.Words.{negated}
 use Rattle.ripemd160.proofs.steps.inverse.Goals as goal
 

@@ -1,4 +1,4 @@
-use borrow.Author.Rules.{rules}
+use Rattle.std.proofs.Common.{rules}
 use Rattle.hash.specs.Words.{rotl}
 use Rattle.ripemd160.proofs.steps.rotated.Goals as goal
 

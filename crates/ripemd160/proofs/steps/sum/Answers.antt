@@ -1,4 +1,4 @@
-use borrow.Author.Rules.{rules}
+use Rattle.std.proofs.Common.{rules}
 use Rattle.hash.specs.Words.{plus}
 use Rattle.ripemd160.proofs.steps.sum.Goals as goal
 

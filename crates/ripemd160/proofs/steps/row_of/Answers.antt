@@ -1,8 +1,7 @@
-use mathlib.Core.Bool.{true, false}
-use mathlib.Core.Path.{◌≡◌}
+use Rattle.std.proofs.Common.{true, false}
 use Rattle.ripemd160.specs.Round.{row}
 use Rattle.ripemd160.proofs.Lines.{steps_steps}
-use Rattle.ripemd160.proofs.steps.row.Goals as goal
+use Rattle.ripemd160.proofs.steps.row_of.Goals as goal
 
 -- eight steps, and then eight
 pub returns : goal.returns

@@ -11,7 +11,7 @@ use Rattle.node.specs.declared.desk.Fields.{Fields}
 use Rattle.node.specs.declared.order.Order.{Order}
 use Rattle.node.specs.Model.{Model, After, accepted, unless, key_at, with_desk}
 use Rattle.node.specs.Asking.{same_order, frame_q}
-use Rattle.node.specs.Calls.{guarded, take-frame, tried, right_tag, carry, decline, desk_taken, desk_carried, desk_declined, order_of}
+use Rattle.node.specs.Calls.{guarded, take_frame, tried, right_tag, carry, decline, desk_taken, desk_carried, desk_declined, order_of}
 use Rattle.node.specs.Stands.{Stands, Told, Obeys}
 use Rattle.node.specs.Orders.{given, ended}
 use Rattle.caller.specs.Spending.{desk_ended, ends, spent}
@@ -41,19 +41,19 @@ module _ (f : Face) (m : Model) (frame : List ℕ) where
 
 module _ {H A : Type 0} (next : H → H) (f : Face) (carries : Fields → Bool) (n0 n1 : Node H A) (frame : List ℕ) (m : Model) (st : Stands next f n0 m) where
   abbrev a : After Fields
-  a = guarded m (take-frame f m frame)
+  a = guarded m (take_frame f m frame)
 
-  pub refused_told : (e : Refusal) → Obeys next f n0 n1 (Err e) (λ x. guarded x (take-frame f x frame)) → Told next f n0 n1 (Err e) (spent carries f m frame)
+  pub refused_told : (e : Refusal) → Obeys next f n0 n1 (Err e) (λ x. guarded x (take_frame f x frame)) → Told next f n0 n1 (Err e) (spent carries f m frame)
   refused_told e obeys =
       let told = obeys m st in
       subst (λ (r : Result Fields Refusal). Told next f n0 n1 (Err e) (ends carries a r)) told.answer (record { answer = refl; model = told.model; meter = told.meter })
 
-  module _ (o : Fields) (obeys : Obeys next f n0 n1 (Ok o) (λ x. guarded x (take-frame f x frame))) where
+  module _ (o : Fields) (obeys : Obeys next f n0 n1 (Ok o) (λ x. guarded x (take_frame f x frame))) where
     abbrev m1 : Model
     m1 = with_desk m (desk_taken m.desk o)
 
     known : (m.refusal ≡ None) × (a.model ≡ m1)
-    unfolding take-frame
+    unfolding take_frame
     known = took f m frame m.refusal (no_of f m frame) (right_tag f m frame) o (obeys m st).answer
 
     stands1 : Stands next f n1 m1

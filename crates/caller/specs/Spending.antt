@@ -7,7 +7,7 @@ use Rattle.node.specs.declared.desk.Fields.{Fields}
 use Rattle.node.specs.declared.desk.Desk.{Desk}
 use Rattle.node.specs.declared.order.Order.{Order}
 use Rattle.node.specs.Model.{Model, After, accepted, with_desk}
-use Rattle.node.specs.Calls.{guarded, take-frame, desk_carried, desk_declined}
+use Rattle.node.specs.Calls.{guarded, take_frame, desk_carried, desk_declined}
 use Rattle.node.specs.Stands.{Stands, Told}
 
 -- the desk once the order in hand was carried, or declined
@@ -21,7 +21,7 @@ module _ (carries : Fields → Bool) where
   ends a (Err e) = record { answer = Err e; model = a.model; rounds = a.rounds }
 
   abbrev pub spent : Face → Model → List ℕ → After Bool
-  spent f m frame = let a = guarded m (take-frame f m frame) in ends a a.answer
+  spent f m frame = let a = guarded m (take_frame f m frame) in ends a a.answer
 
 -- the answer; an order that came back is none
 abbrev pub plain : {X : Type 0} → Result X (Refusal × Option Order) → Result X Refusal

@@ -29,7 +29,7 @@ use Rattle.node.specs.declared.replay.Answer.TheVariants.{Refused, Done, Tag, Ve
 use Rattle.node.specs.Asking.{making_q, install_q, clear_q, open_q, feed_q, drop_q, finish_q, judge_q, seal_q, frame_q, end_q, addressed}
 use Rattle.node.specs.Model.{Model, Opened, After, refused, unless, key_at, run_at, fed_of, with_slot, with_lane, with_desk}
 use Rattle.node.specs.Model as model
-use Rattle.node.specs.Calls.{guarded, install, clear, open_lane, feed, drop-lane, finish, judge, seal, take-frame, tried, carry, decline, key_of, bytes_of, joined, tag_at, sealed_front, sealed_frame, next_number, desk_sealed, desk_taken, desk_carried, desk_declined, order_of}
+use Rattle.node.specs.Calls.{guarded, install, clear, open_lane, feed, drop_lane, finish, judge, seal, take_frame, tried, carry, decline, key_of, bytes_of, joined, tag_at, sealed_front, sealed_frame, next_number, desk_sealed, desk_taken, desk_carried, desk_declined, order_of}
 use Rattle.node.specs.Stands.{Stands}
 use Rattle.node.specs.Replaying.{Act, act, placed, performed, Narrow, Performs}
 use Rattle.node.specs.Replies.{done_of, tag_of, verdict_of, frame_of, fields_of}
@@ -56,7 +56,7 @@ run_some None q = absurd (both_ways _ refl q)
 run_some (Some o) q = (o, refl)
 
 some : (x y : Opened) → Some x ≡ Some y → x ≡ y
-unfolding install clear open_lane feed drop-lane finish judge seal take-frame carry decline
+unfolding install clear open_lane feed drop_lane finish judge seal take_frame carry decline
 some x y is = cc
 
 module _ (f : Face) (laws : Laws f) (added t own : ℕ) (h : List Event) (m : Model) (ag : Agrees f added t own h m) where
@@ -280,9 +280,9 @@ module _ (f : Face) (laws : Laws f) (added t own : ℕ) (h : List Event) (m : Mo
       lane_moved v c a l None w r l4 ks ls (λ o' q. let z : ◌≡◌ {A = ℕ} 0 1 = cc in absurd (omega (arith, z))) (ap (λ x. fed_more x (fed_bytes h l)) here) d none blank right costs
       (omega (arith, sum, ap (held_rounds f) was))
 
-  drop-goes : (l : ℕ) → Goes (Drop l) (done_of (guarded m (drop-lane f m l)).answer) (guarded m (drop-lane f m l))
-  unfolding drop-lane
-  drop-goes l =
+  drop_goes : (l : ℕ) → Goes (Drop l) (done_of (guarded m (drop_lane f m l)).answer) (guarded m (drop_lane f m l))
+  unfolding drop_lane
+  drop_goes l =
       let c : Call = Drop l in
       step done_of (λ e. refl) c (drop_q l (fed_of (run_at m l))) (model.accepted (tt {0}) (with_lane m l None) 0) (refl, (refl, tt)) (ap (drop_q l) (ag.lanes.fed l))
       (λ ready all none.
@@ -332,7 +332,7 @@ module _ (f : Face) (laws : Laws f) (added t own : ℕ) (h : List Event) (m : Mo
             (ap (whole_rounds f) was) (whole_sum (f.whole n) (f.held n) (laws.bounded n))
 
   judge_goes : (l : ℕ) (given : Bor (List ℕ)) → Goes (Judge l given) (verdict_of (guarded m (judge f m l given.now)).answer) (guarded m (judge f m l given.now))
-  unfolding judge seal take-frame
+  unfolding judge seal take_frame
   judge_goes l given =
       step verdict_of (λ e. refl) (Judge l given) (judge_q l (fed_of (run_at m l)) m.t (length given.now)) (closed (run_at m l)) (refl, (refl, (refl, tt)))
       (ap (λ x. judge_q l x t (length given.now)) (ag.lanes.fed l) ∙ ap (λ x. judge_q l (fed_of (run_at m l)) x (length given.now)) (sym ag.size))
@@ -500,10 +500,10 @@ module _ (f : Face) (laws : Laws f) (added t own : ℕ) (h : List Event) (m : Mo
         (record { refusal = sym all; right = λ _. taken_right y false q (Refused WrongTag) refl (λ w. absurd (both_ways _ refl w)) })
         refl
 
-    take-goes : Goes (Take ref) (fields_of (guarded m (take-frame f m frame)).answer) (guarded m (take-frame f m frame))
-    unfolding take-frame
-    take-goes =
-        guard fields_of (λ e. refl) (Take ref) (take-frame f m frame)
+    take_goes : Goes (Take ref) (fields_of (guarded m (take_frame f m frame)).answer) (guarded m (take_frame f m frame))
+    unfolding take_frame
+    take_goes =
+        guard fields_of (λ e. refl) (Take ref) (take_frame f m frame)
         (λ ready.
         let past = frame_q f (order_held h) frame t own (key_in h slot) (newest (numbers_taken h slot)) in
         let tag = asks (right_tag f added t own h frame) WrongTag ∷ [] in
@@ -541,7 +541,7 @@ module _ (f : Face) (laws : Laws f) (added t own : ℕ) (h : List Event) (m : Mo
   front_of n bytes = take_at bytes (drop (length bytes) (replicate n 0)) (length bytes) refl
 
   pub goes : ((k b : List ℕ) (n : ℕ) → within f.row.tag n ≡ true → length (f.tag k b n) ≡ n) → (c : Call) → Narrow c → Went c (performed f m c)
-  unfolding install clear open_lane feed drop-lane finish judge seal take-frame carry decline
+  unfolding install clear open_lane feed drop_lane finish judge seal take_frame carry decline
   goes sized (Install s key) narrow = went done_of (Install s key) (guarded m (install f m s key.now)) (install_goes s key)
   goes sized (Clear s) narrow = went done_of (Clear s) (guarded m (clear f m s)) (clear_goes s)
   goes sized (Open l s) narrow = went done_of (Open l s) (guarded m (open_lane f m l s)) (open_goes l s)
@@ -550,12 +550,12 @@ module _ (f : Face) (laws : Laws f) (added t own : ℕ) (h : List Event) (m : Mo
       let place : List ℕ = placed 32 (tag_at f m l) in
       went (tag_of place) (Finish l room) (guarded m (finish f m l (min room 32))) (finish_goes sized l room place (front_of 32 (tag_at f m l)))
   goes sized (Judge l tag) narrow = went verdict_of (Judge l tag) (guarded m (judge f m l tag.now)) (judge_goes l tag)
-  goes sized (Drop l) narrow = went done_of (Drop l) (guarded m (drop-lane f m l)) (drop-goes l)
+  goes sized (Drop l) narrow = went done_of (Drop l) (guarded m (drop_lane f m l)) (drop_goes l)
   goes sized (Seal s kind body address room) narrow =
       let frame : List ℕ = sealed_frame f m s kind body.now address in
       let place : List ℕ = placed 295 frame in
       went (frame_of place) (Seal s kind body address room) (guarded m (seal f m s kind body.now (min room 295))) (seal_goes sized s kind body address room narrow place (front_of 295 frame))
-  goes sized (Take frame) narrow = went fields_of (Take frame) (guarded m (take-frame f m frame.now)) (take-goes frame)
+  goes sized (Take frame) narrow = went fields_of (Take frame) (guarded m (take_frame f m frame.now)) (take_goes frame)
   goes sized (Carry o) narrow = went done_of (Carry o) (guarded m (carry f m o)) (carry_goes o)
   goes sized (Decline o) narrow = went done_of (Decline o) (guarded m (decline f m o)) (decline_goes o)
 

@@ -9,7 +9,7 @@ use Rattle.node.specs.Model.{Model, After}
 use Rattle.node.specs.Calls.{written}
 use Rattle.node.specs.Stands.{Told}
 use Rattle.node.specs.Replies.{tag_of, frame_of}
-use Rattle.node.specs.Replaying.{Act, act, performed, Acted}
+use Rattle.node.specs.Replaying.{act, performed, Acted}
 
 -- a node that told what its model tells, the result given as an answer
 pub acted : {H A X : Type 0} (next : H → H) (f : Face) (m : Model) (n0 n1 : Node H A) (of : Result X Refusal → Answer) (c c' : Call) (a : Answer) (r : Result X Refusal) (x : After X) →

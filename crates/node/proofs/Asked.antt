@@ -1,14 +1,14 @@
 -- The first no of a list of questions, part by part, and the questions on a frame. Assumes nothing.
-use Rattle.std.proofs.Common.{◌≡◌, ℕ, ◌+◌, ◌<◌, ◌≤◌, Bool, true, false, cond, not, ltb, leb, List, [], ◌∷◌, ◌++◌, length, get_or, is_some, Some, None, Ok, Err, Option, Result, sym, refl, ap, ◌∙◌, subst, arith, ltb-true, leb-true}
+use Rattle.std.proofs.Common.{◌≡◌, ℕ, ◌+◌, ◌<◌, ◌≤◌, Bool, true, false, cond, not, ltb, leb, List, [], ◌∷◌, ◌++◌, get_or, is_some, Some, None, Ok, Err, Option, Result, sym, refl, ap, ◌∙◌, subst, arith, ltb-true, leb-true}
 use Rattle.refusals.specs.declared.Refusal.{Refusal}
 use Rattle.refusals.specs.declared.Refusal.TheVariants.{OrderInHand, SlotEmpty, Address, MessageLength, OldNumber}
-use Rattle.refusals.specs.Questions.{Question, asks, first_refusal}
+use Rattle.refusals.specs.Questions.{Question, first_refusal}
 use Rattle.mac.specs.Face.{Face}
 use Rattle.mac.specs.declared.KeyRecord.{KeyRecord}
 use Rattle.frame.specs.declared.Header.{Header}
 use Rattle.frame.specs.declared.Record.{Record}
 use Rattle.frame.specs.Layout.{header_of, Fitting}
-use Rattle.frame.specs.Reading.{questions, header_in, level_in, reads, told, refused, ReadOf}
+use Rattle.frame.specs.Reading.{questions, header_in, reads, told, refused, ReadOf}
 use Rattle.frame.proofs.Read.{read_ok, read_refused}
 use Rattle.node.specs.declared.desk.Fields.{Fields}
 use Rattle.node.specs.Asking.{frame_q, addressed}

@@ -1,13 +1,12 @@
 -- Carry and decline. Assumes nothing.
-use Rattle.std.proofs.Common.{◌≡◌, ℕ, ◌+◌, ◌^◌, ◌<◌, Bool, true, false, cond, List, [], ◌∷◌, Some, None, Ok, Err, Option, Result, sym, refl, ap, ◌∙◌, subst, arith}
+use Rattle.std.proofs.Common.{◌≡◌, ◌+◌, ◌^◌, ◌<◌, Bool, true, false, Some, None, Ok, Option, sym, refl, ap, ◌∙◌, subst}
 use borrow.Author.Tests.{both_ways}
-use Rattle.refusals.specs.declared.Refusal.{Refusal}
 use Rattle.refusals.specs.declared.Refusal.TheVariants.{NotInHand}
 use Rattle.mac.specs.Face.{Face}
 use Rattle.node.specs.declared.Node.{Node}
 use Rattle.node.specs.declared.desk.Desk.{Desk}
 use Rattle.node.specs.declared.desk.Fields.{Fields}
-use Rattle.node.specs.Model.{Model, After, accepted, refused, unless, with_desk}
+use Rattle.node.specs.Model.{Model, refused, with_desk}
 use Rattle.node.specs.Asking.{is_order}
 use Rattle.node.specs.Calls.{carry, decline, desk_carried, desk_declined}
 use Rattle.node.specs.Stands.{Stands, Told, Sound}

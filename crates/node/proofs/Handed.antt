@@ -1,5 +1,5 @@
 -- A frame that was sealed is taken by a node that is ready for it. Assumes nothing.
-use Rattle.std.proofs.Common.{◌≡◌, ℕ, ◌+◌, ◌-◌, ◌<◌, ◌≤◌, min, Bool, true, false, cond, not, eqb, ltb, leb, List, [], ◌∷◌, ◌++◌, length, get_or, take, drop, is_some, Some, None, Ok, Err, Option, Result, unwrap_or, sym, refl, ap, ◌∙◌, subst, append_assoc, arith, length-append, ltb-true, lt-ltb, le-leb, leb-true}
+use Rattle.std.proofs.Common.{◌≡◌, ℕ, ◌+◌, ◌-◌, ◌<◌, ◌≤◌, min, Bool, true, cond, not, eqb, ltb, leb, List, [], ◌∷◌, ◌++◌, length, get_or, take, drop, is_some, Some, None, Ok, Option, Result, unwrap_or, sym, refl, ap, ◌∙◌, subst, append_assoc, arith, length-append, ltb-true, lt-ltb, le-leb, leb-true}
 use Rattle.std.proofs.lemmas.List.{take_at}
 use Rattle.std.specs.Str.{bytes_eq}
 use Rattle.std.proofs.lemmas.Slice.Eq.{bytes_eq-Decides}
@@ -8,15 +8,14 @@ use Rattle.refusals.specs.declared.Refusal.TheVariants.{NoSlot, SlotEmpty, Messa
 use Rattle.refusals.specs.Questions.{Question, asks, first_refusal}
 use Rattle.mac.specs.Face.{Face, within}
 use Rattle.frame.specs.declared.Header.{Header}
-use Rattle.frame.specs.Layout.{header_of, bytes_of_header, body_of, signed_part, tag_in}
+use Rattle.frame.specs.Layout.{header_of, bytes_of_header, body_of, signed_part}
 use Rattle.frame.specs.Reading.{body_questions, questions}
 use Rattle.frame.specs.Sealing.{header_for, ReadBack}
 use Rattle.frame.proofs.Law.{sealed, sealable}
 use Rattle.frame.proofs.Bytes.{header_length}
-use Rattle.node.specs.declared.desk.Fields.{Fields}
 use Rattle.node.specs.Model.{Model, After, key_at, unless}
 use Rattle.node.specs.Asking.{seal_q, frame_q, addressed}
-use Rattle.node.specs.Calls.{guarded, seal, next_number, sealed_front, sealed_frame, take-frame, tried, right_tag, order_of}
+use Rattle.node.specs.Calls.{guarded, seal, next_number, sealed_front, sealed_frame, take_frame, tried, right_tag, order_of}
 use Rattle.node.specs.Handing.{Ready, ordered}
 use Rattle.node.proofs.Asked.{passed, left_part, answered}
 
@@ -54,8 +53,8 @@ sealing_passed f slot key kind body last t room e =
 
 -- a frame that passes every question is taken as its order
 takes_it : (f : Face) (l : Model) (frame : List ℕ) → first_refusal (frame_q f l.desk.hand frame l.t l.address (key_at l (header_of frame).slot) (get_or l.desk.took (header_of frame).slot 0)) ≡ None →
-    right_tag f l frame ≡ true → (take-frame f l frame).answer ≡ Ok (order_of frame)
-unfolding take-frame
+    right_tag f l frame ≡ true → (take_frame f l frame).answer ≡ Ok (order_of frame)
+unfolding take_frame
 takes_it f l frame e r =
     ap (λ (o : Option Refusal). (unless o l (tried f l frame (right_tag f l frame))).answer) e ∙ ap (λ (b : Bool). (tried f l frame b).answer) r
 
@@ -101,15 +100,15 @@ module _ (f : Face) (c l : Model) (slot kind address : ℕ) (body : List ℕ) (r
         ap (λ (h : Header). record { slot = h.slot; number = h.number; kind = h.kind; level = cond (eqb h.kind 0) (get_or (body_of frame) 0 0) 0; place = 8; size = h.size }) back.header
         ∙ ap (λ (b : List ℕ). record { slot = slot; number = next_number c.desk slot; kind = kind; level = cond (eqb kind 0) (get_or b 0 0) 0; place = 8; size = length body }) back.body
 
-    taken_frame : (take-frame f l frame).answer ≡ Ok (ordered c slot kind body)
-    unfolding take-frame
+    taken_frame : (take_frame f l frame).answer ≡ Ok (ordered c slot kind body)
+    unfolding take_frame
     taken_frame = takes_it f l frame asked right ∙ ap Ok order_is
 
   -- what is sealed is taken as the command sealed
   pub sealed_taken : (room : ℕ) → address < 65536 → length (f.tag (unwrap_or (key_at c slot) []) (sealed_front f c slot kind body address) c.t) ≡ c.t →
       first_refusal (seal_q f slot (key_at c slot) kind body (get_or c.desk.sealed slot 0) c.t room) ≡ None →
-      (take-frame f l (sealed_frame f c slot kind body address)).answer ≡ Ok (ordered c slot kind body)
-  unfolding take-frame
+      (take_frame f l (sealed_frame f c slot kind body address)).answer ≡ Ok (ordered c slot kind body)
+  unfolding take_frame
   sealed_taken room a16 long e =
       let p = sealing_passed f slot (key_at c slot) kind body (get_or c.desk.sealed slot 0) c.t room e in
       let more = p.more in
@@ -122,7 +121,7 @@ module _ (f : Face) (c l : Model) (slot kind address : ℕ) (body : List ℕ) (r
 
 -- an accepted answer, behind a refusal that there might have been
 opened : {X : Type 0} (o : Option Refusal) (m : Model) (y : After X) (x : X) → Ok x ≡ (unless o m y).answer → (o ≡ None) × (Ok x ≡ y.answer)
-unfolding seal take-frame
+unfolding seal take_frame
 opened None m y x e = (refl, e)
 opened (Some q) m y x e = absurd (let z : ◌≡◌ {A = ℕ} 0 1 = cc in omega arith)
 
@@ -161,8 +160,8 @@ module _ (f : Face) (c : Model) (slot kind address n : ℕ) (body out0 out1 fram
       let place : min n (length out1) - 0 ≡ length S = omega arith in
       isFrame ∙ ap (λ (i : ℕ). take i out1) place ∙ ap (take (length S)) isOut ∙ take_at S (drop (length S) out0) (length S) refl
 
-  pub handed : (l : Model) → address < 65536 → Ready c l slot address → (guarded l (take-frame f l (sealed_frame f c slot kind body address))).answer ≡ Ok (ordered c slot kind body)
+  pub handed : (l : Model) → address < 65536 → Ready c l slot address → (guarded l (take_frame f l (sealed_frame f c slot kind body address))).answer ≡ Ok (ordered c slot kind body)
   unfolding S front
   handed l a16 ready =
-      ap (λ (o : Option Refusal). (unless o l (take-frame f l S)).answer) ready.made
+      ap (λ (o : Option Refusal). (unless o l (take_frame f l S)).answer) ready.made
       ∙ sealed_taken f c l slot kind address body ready (length out0) a16 tag_long asked_all.0

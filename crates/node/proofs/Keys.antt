@@ -1,12 +1,12 @@
 -- Install and clear. Assumes nothing.
-use Rattle.std.proofs.Common.{◌≡◌, ℕ, ◌<◌, ◌≤◌, Bool, true, false, cond, ltb, List, [], ◌∷◌, length, get_or, set, Some, None, Ok, Err, Option, Result, sym, refl, ap, ◌∙◌, subst, arith, le-ltb, lt-ltb}
+use Rattle.std.proofs.Common.{◌≡◌, ℕ, ◌<◌, ◌≤◌, Bool, true, false, cond, List, length, get_or, Some, None, Ok, Err, refl, ap, arith, le-ltb, lt-ltb}
 use Rattle.refusals.specs.declared.Refusal.{Refusal}
 use Rattle.refusals.specs.declared.Refusal.TheVariants.{KeyLength, NoSlot, SlotEmpty}
 use Rattle.mac.specs.Face.{Face, within}
 use Rattle.mac.specs.Promises.{Expanded}
 use Rattle.mac.specs.declared.KeyRecord.{KeyRecord}
 use Rattle.node.specs.declared.Node.{Node}
-use Rattle.node.specs.Model.{Model, After, accepted, refused, unless, key_at, with_slot}
+use Rattle.node.specs.Model.{Model, accepted, refused, unless, with_slot}
 use Rattle.node.specs.Calls.{install, clear}
 use Rattle.node.specs.Stands.{Stands, Told}
 use Rattle.node.proofs.Steps.{slot_written, hash_moved, hash_free, slot_put, key_held, key_absent}

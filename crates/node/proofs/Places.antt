@@ -1,12 +1,14 @@
 -- A tag or a frame in the first bytes of a place. Assumes nothing.
-use Rattle.std.proofs.Common.{◌≡◌, ℕ, ◌+◌, ◌-◌, ◌≤◌, min, List, ◌++◌, length, take, drop, Ok, Err, Result, sym, refl, ap, ◌∙◌, subst, append_assoc, arith, length-append}
+use Rattle.std.proofs.Common.{◌≡◌, ℕ, ◌+◌, ◌-◌, ◌≤◌, min, List, ◌++◌, length, take, drop, Ok, Err, Result, sym, ap, ◌∙◌, subst, append_assoc, arith, length-append}
 use borrow.Rule.Slice.PartMut.{mid_of, post_of, put_same}
 use Rattle.std.proofs.lemmas.List.{length-take-le, drop-append-le}
+use Rattle.std.proofs.Math.Seq.{take-append_seam}
 use Rattle.refusals.specs.declared.Refusal.{Refusal}
 use Rattle.mac.specs.Face.{Face}
 use Rattle.node.specs.declared.Node.{Node}
 use Rattle.node.specs.Model.{Model}
 use Rattle.node.specs.Calls.{guarded, finish, seal, written}
+use Rattle.node.specs.Replaying.{Begins}
 use Rattle.node.specs.Stands.{Obeys}
 
 -- what was written into the first bytes of a place, as it stands in the whole
@@ -18,6 +20,11 @@ laid f m (Ok x) bytes out0 out1 rest is long =
     ∙ append_assoc bytes (drop (length bytes) out0) rest
     ∙ ap (λ o. bytes ++ o) (sym (drop-append-le (length bytes) out0 rest le))
 laid f m (Err e) bytes out0 out1 rest is long = ap (λ o. o ++ rest) is
+
+-- what was written stands first in the place
+pub begins : {X : Type 0} (f : Face) (m : Model) (r : Result X Refusal) (bytes out0 out1 : List ℕ) → out1 ≡ written f m r bytes out0 → Begins r bytes out1
+begins f m (Ok x) bytes out0 out1 is = ap (take (length bytes)) is ∙ take-append_seam bytes (drop (length bytes) out0)
+begins f m (Err e) bytes out0 out1 is = tt
 
 -- the same of the first k bytes of a place
 pub laid_first : {X : Type 0} (f : Face) (m : Model) (r : Result X Refusal) (bytes place out : List ℕ) (k : ℕ) → out ≡ written f m r bytes (mid_of 0 k place) → length out ≡ length (mid_of 0 k place) → out ++ post_of 0 k place ≡ written f m r bytes place

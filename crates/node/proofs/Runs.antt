@@ -1,9 +1,8 @@
 -- The calls on lanes. Assumes nothing.
-use Rattle.std.proofs.Common.{◌≡◌, ℕ, ◌+◌, ◌-◌, ◌<◌, ◌≤◌, Bool, true, false, cond, eqb, ltb, leb, List, [], ◌∷◌, ◌++◌, length, get_or, drop, set, is_some, Some, None, Ok, Err, Option, Result, sym, refl, ap, ◌∙◌, subst, arith, le-ltb, lt-ltb, eq-eqb, leb-false, leb-true}
+use Rattle.std.proofs.Common.{◌≡◌, ℕ, ◌+◌, ◌-◌, ◌<◌, ◌≤◌, Bool, true, false, cond, eqb, leb, List, [], ◌++◌, length, get_or, drop, is_some, Some, None, Ok, Err, Option, Result, sym, refl, ap, ◌∙◌, subst, arith, le-ltb, lt-ltb, eq-eqb, leb-false, leb-true}
 use borrow.Author.Tests.{both_ways}
 use Rattle.std.proofs.lemmas.Bool.{ne_eqb}
 use Rattle.std.specs.Str.{bytes_eq}
-use Rattle.hash.specs.Meter.{after}
 use Rattle.refusals.specs.declared.Refusal.{Refusal}
 use Rattle.refusals.specs.declared.Refusal.TheVariants.{NoLane, NoSlot, SlotEmpty, LaneBusy, NotBegun, MessageLength, Room, TagSize}
 use Rattle.mac.specs.Face.{Face, Laws, within, free}
@@ -11,8 +10,8 @@ use Rattle.mac.specs.Promises.{Added, Ended}
 use Rattle.mac.specs.declared.KeyRecord.{KeyRecord}
 use Rattle.mac.specs.declared.Run.{Run}
 use Rattle.node.specs.declared.Node.{Node}
-use Rattle.node.specs.Model.{Model, Opened, After, accepted, refused, unless, key_at, run_at, fed_of, with_lane}
-use Rattle.node.specs.Calls.{open_lane, feed, drop-lane, finish, judge, written, tag_at, end_rounds, joined, key_of, bytes_of}
+use Rattle.node.specs.Model.{Model, Opened, After, accepted, refused, unless, run_at, fed_of, with_lane}
+use Rattle.node.specs.Calls.{open_lane, feed, drop_lane, finish, judge, written, tag_at, joined, key_of, bytes_of}
 use Rattle.node.specs.Stands.{Stands, Told, LaneStands}
 use Rattle.node.specs.Asking.{joins}
 use Rattle.node.specs.Tags.{Compared}
@@ -69,16 +68,16 @@ module _ {H A : Type 0} (next : H → H) (f : Face) (laws : Laws f) (n : Node H 
       (record { answer = refl; model = lane_put next f n m st n.hash l run1 (Some (record { key = key.0; bytes = [] })) len (begins key.0 key.2); meter = refl })
 
   -- drop
-  pub drop-no-lane : 4 ≤ l → drop-lane f m l ≡ refused m NoLane
-  unfolding drop-lane
-  drop-no-lane ge = rw (le-ltb l 4 ge)
+  pub drop_no_lane : 4 ≤ l → drop_lane f m l ≡ refused m NoLane
+  unfolding drop_lane
+  drop_no_lane ge = rw (le-ltb l 4 ge)
 
-  pub drop-idle : l < 4 → run.begun ≡ false → drop-lane f m l ≡ refused m NotBegun
-  unfolding drop-lane
-  drop-idle l4 b = let o = idle_run l4 b in rw (lt-ltb l 4 l4, o)
+  pub drop_idle : l < 4 → run.begun ≡ false → drop_lane f m l ≡ refused m NotBegun
+  unfolding drop_lane
+  drop_idle l4 b = let o = idle_run l4 b in rw (lt-ltb l 4 l4, o)
 
-  pub drops : (run1 : Run) → l < 4 → length n.lanes ≡ 4 → run.begun ≡ true → run1 ≡ free → Told next f n (lane_written next f n m st n.hash l run1) (Ok (tt {0})) (drop-lane f m l)
-  unfolding drop-lane
+  pub drops : (run1 : Run) → l < 4 → length n.lanes ≡ 4 → run.begun ≡ true → run1 ≡ free → Told next f n (lane_written next f n m st n.hash l run1) (Ok (tt {0})) (drop_lane f m l)
+  unfolding drop_lane
   drops run1 l4 len b isFree =
       let o = (begun_run l4 b).1 in
       rw (lt-ltb l 4 l4, o) (record { answer = refl; model = lane_put next f n m st n.hash l run1 None len isFree; meter = refl })

@@ -1,5 +1,5 @@
 -- Seal. Assumes nothing.
-use Rattle.std.proofs.Common.{◌≡◌, ℕ, ◌+◌, ◌-◌, ◌^◌, ◌<◌, ◌≤◌, min, Bool, true, false, cond, List, [], ◌∷◌, ◌++◌, length, get_or, take, drop, is_some, Some, None, Ok, Err, Option, Result, unwrap_or, sym, refl, ap, ◌∙◌, subst, ⊎_elim, append_assoc, arith, length-append, length-drop, le-ltb, le-leb}
+use Rattle.std.proofs.Common.{◌≡◌, ℕ, ◌+◌, ◌^◌, ◌<◌, ◌≤◌, min, Bool, true, cond, List, [], ◌++◌, length, get_or, take, drop, is_some, Some, None, Ok, Err, Option, unwrap_or, sym, ap, ◌∙◌, subst, ⊎_elim, append_assoc, arith, length-append, length-drop, le-ltb, le-leb}
 use Rattle.std.proofs.lemmas.List.{take_at, drop_at, drop-drop}
 use Rattle.std.proofs.lemmas.Bool.{cases_lt}
 use Rattle.hash.specs.Meter.{after}
@@ -13,8 +13,7 @@ use Rattle.frame.proofs.Bytes.{header_length}
 use Rattle.node.specs.declared.Node.{Node}
 use Rattle.node.specs.declared.desk.Desk.{Desk}
 use Rattle.node.specs.Model.{Model, After, accepted, refused, unless, key_at, with_desk}
-use Rattle.node.specs.Asking.{seal_q}
-use Rattle.node.specs.Calls.{seal, sealed_frame, written, next_number, desk_sealed}
+use Rattle.node.specs.Calls.{seal, sealed_frame, next_number, desk_sealed}
 use Rattle.node.specs.Stands.{Stands, Told}
 use Rattle.node.specs.Taking.{sealing, AskedSeal, Behind}
 use Rattle.node.proofs.Steps.{key_held}

@@ -1,9 +1,9 @@
 -- A node and what it stands for stay together as one lane or one slot is written. Assumes nothing.
-use Rattle.std.proofs.Common.{◌≡◌, ℕ, ◌<◌, true, false, List, [], length, get_or, set, Some, None, Err, Option, sym, refl, ap, ◌∙◌, subst, ⊎_elim, arith}
+use Rattle.std.proofs.Common.{◌≡◌, ℕ, ◌<◌, List, length, get_or, set, Some, None, Err, Option, sym, refl, subst, ⊎_elim, arith}
 use Rattle.std.proofs.lemmas.List.{get_or-set_same, get_or-set_other, length-set, set-get_or}
 use Rattle.std.proofs.lemmas.Bool.{cases_eq}
 use Rattle.refusals.specs.declared.Refusal.{Refusal}
-use Rattle.mac.specs.Face.{Face, free}
+use Rattle.mac.specs.Face.{Face}
 use Rattle.mac.specs.declared.KeyRecord.{KeyRecord}
 use Rattle.mac.specs.declared.Run.{Run}
 use Rattle.node.specs.declared.Node.{Node}

@@ -1,5 +1,5 @@
 -- Take. Assumes nothing.
-use Rattle.std.proofs.Common.{◌≡◌, ℕ, ◌+◌, ◌^◌, ◌<◌, ◌≤◌, Bool, true, false, List, [], length, get_or, is_some, Some, None, Ok, Err, Option, Result, unwrap_or, sym, refl, ap, ◌∙◌, subst, arith}
+use Rattle.std.proofs.Common.{◌≡◌, ℕ, ◌+◌, ◌^◌, ◌<◌, Bool, true, false, List, [], length, get_or, is_some, Some, None, Ok, Err, Option, unwrap_or, sym, refl, ap, ◌∙◌, subst, arith}
 use Rattle.std.specs.Str.{bytes_eq}
 use Rattle.hash.specs.Meter.{after}
 use Rattle.refusals.specs.declared.Refusal.{Refusal}
@@ -14,9 +14,9 @@ use Rattle.frame.proofs.Law.{parts}
 use Rattle.node.specs.declared.Node.{Node}
 use Rattle.node.specs.declared.desk.Desk.{Desk}
 use Rattle.node.specs.declared.desk.Fields.{Fields}
-use Rattle.node.specs.Model.{Model, After, refused, unless, key_at, with_desk}
+use Rattle.node.specs.Model.{Model, refused, unless, key_at}
 use Rattle.node.specs.Asking.{frame_q}
-use Rattle.node.specs.Calls.{take-frame, tried, right_tag, order_of, desk_taken}
+use Rattle.node.specs.Calls.{take_frame, tried, right_tag, order_of, desk_taken}
 use Rattle.node.specs.Stands.{Stands, Told, SlotStands}
 use Rattle.node.specs.Taking.{AskedFrame, Signed}
 use Rattle.node.proofs.Steps.{key_held, hash_moved, hash_free}
@@ -25,7 +25,7 @@ use Rattle.node.proofs.Ends.{desk_written, desk_put}
 use Rattle.node.proofs.Asked.{Fine, fine}
 
 pub slot_same : (f : Face) (x : Option KeyRecord) (y : Option (List ℕ)) → SlotStands f x y → is_some y ≡ is_some x
-unfolding take-frame
+unfolding take_frame
 slot_same f None None z = refl
 slot_same f None (Some k) z = absurd z
 slot_same f (Some r) None z = absurd z
@@ -48,9 +48,9 @@ module _ {H A : Type 0} (next : H → H) (f : Face) (n : Node H A) (m : Model) (
       ∙ ap (λ (a : ℕ). asked_of n.desk n.t a key) (sym st.address)
       ∙ there
 
-  pub take-refused : (e : Refusal) → AskedFrame f n.desk.hand frame n.t n.address n.slots n.desk.took (Err e) → take-frame f m frame ≡ refused m e
-  unfolding take-frame
-  take-refused e asked = ap (λ (x : Option Refusal). unless x m (tried f m frame (right_tag f m frame))) (frame_asked (Some e) asked)
+  pub take_refused : (e : Refusal) → AskedFrame f n.desk.hand frame n.t n.address n.slots n.desk.took (Err e) → take_frame f m frame ≡ refused m e
+  unfolding take_frame
+  take_refused e asked = ap (λ (x : Option Refusal). unless x m (tried f m frame (right_tag f m frame))) (frame_asked (Some e) asked)
 
   module _ (ready : n.refusal ≡ None) (o : Fields) (r : KeyRecord) (asked : AskedFrame f n.desk.hand frame n.t n.address n.slots n.desk.took (Ok (o, r)))
       (h1 : H) (b : Bool) (signed : Signed next f n.hash h1 r frame b) where
@@ -74,16 +74,16 @@ module _ {H A : Type 0} (next : H → H) (f : Face) (n : Node H A) (m : Model) (
           j.1 ∙ ap (λ (i : ℕ). after next n.hash (f.whole i)) cut.signed,
         )
 
-    call_is : (v : Bool) → b ≡ v → take-frame f m frame ≡ tried f m frame v
-    unfolding take-frame
+    call_is : (v : Bool) → b ≡ v → take_frame f m frame ≡ tried f m frame v
+    unfolding take_frame
     call_is v e = ap (λ (x : Option Refusal). unless x m (tried f m frame (right_tag f m frame))) none ∙ ap (tried f m frame) (known.0 ∙ e)
 
-    pub takes_wrong : b ≡ false → Told next f n (hash_moved next f n m st h1) (Err WrongTag) (take-frame f m frame)
-    unfolding take-frame
+    pub takes_wrong : b ≡ false → Told next f n (hash_moved next f n m st h1) (Err WrongTag) (take_frame f m frame)
+    unfolding take_frame
     takes_wrong e = subst (Told next f n (hash_moved next f n m st h1) (Err WrongTag)) (sym (call_is false e)) (record { answer = refl; model = hash_free next f n m st h1; meter = known.1 })
 
-    pub takes : (d : Desk) → b ≡ true → (n.desk.taken + 1 < 2 ^ 64 → d ≡ desk_taken n.desk o) → Told next f n (desk_written next f n m st h1 d) (Ok o) (take-frame f m frame)
-    unfolding take-frame
+    pub takes : (d : Desk) → b ≡ true → (n.desk.taken + 1 < 2 ^ 64 → d ≡ desk_taken n.desk o) → Told next f n (desk_written next f n m st h1 d) (Ok o) (take_frame f m frame)
+    unfolding take_frame
     takes d e made =
         let few : n.desk.taken + 1 < 2 ^ 64 = subst (λ (x : Desk). x.taken + 1 < 2 ^ 64) (sym st.desk) (omega (arith, taken_few m.desk st.sound)) in
         subst (Told next f n (desk_written next f n m st h1 d) (Ok o)) (sym (call_is true e))

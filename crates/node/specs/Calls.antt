@@ -1,5 +1,5 @@
 -- What each call answers and makes of what the node stands for. Assumes nothing.
-use Rattle.std.specs.Prelude.{ℕ, ◌+◌, ◌-◌, Bool, true, false, cond, List, [], ◌∷◌, ◌++◌, length, drop, replicate, Some, None, Ok, Err, Option, Result, ◌==◌, slice_index, slice_set}
+use Rattle.std.specs.Prelude.{ℕ, ◌+◌, ◌-◌, Bool, true, false, cond, List, [], ◌++◌, length, drop, replicate, Some, None, Ok, Err, Option, Result, ◌==◌, slice_index, slice_set}
 use Rattle.std.specs.Option.{unwrap_or}
 use Rattle.std.specs.Str.{bytes_eq}
 use Rattle.refusals.specs.Questions.{first_refusal}
@@ -55,8 +55,8 @@ module _ (f : Face) (m : Model) where
       unless (first_refusal (feed_q f lane (length piece) (fed_of (run_at m lane)))) m
       (accepted tt (with_lane m lane (Some (joined (run_at m lane) piece))) (f.held (n + length piece) - f.held n))
 
-  unfoldable pub drop-lane : ℕ → After Unit
-  drop-lane lane = unless (first_refusal (drop_q lane (fed_of (run_at m lane)))) m (accepted tt (with_lane m lane None) 0)
+  unfoldable pub drop_lane : ℕ → After Unit
+  drop_lane lane = unless (first_refusal (drop_q lane (fed_of (run_at m lane)))) m (accepted tt (with_lane m lane None) 0)
 
   -- the tag of a run, and the rounds that its end makes
   abbrev pub tag_at : ℕ → List ℕ
@@ -131,8 +131,8 @@ module _ (f : Face) (m : Model) where
   tried frame true = accepted (order_of frame) (with_desk m (desk_taken m.desk (order_of frame))) (f.whole (8 + (header_of frame).size))
   tried frame false = record { answer = Err WrongTag; model = m; rounds = f.whole (8 + (header_of frame).size) }
 
-  unfoldable pub take-frame : List ℕ → After Fields
-  take-frame frame =
+  unfoldable pub take_frame : List ℕ → After Fields
+  take_frame frame =
       let slot = (header_of frame).slot in
       unless (first_refusal (frame_q f m.desk.hand frame m.t m.address (key_at m slot) (slice_index m.desk.took slot))) m (tried frame (right_tag frame))
 

@@ -8,7 +8,7 @@ use Rattle.node.specs.declared.desk.Fields.{Fields}
 use Rattle.node.specs.declared.order.Order.{Order}
 use Rattle.node.specs.Model.{Model, key_at}
 use Rattle.node.specs.Asking.{addressed}
-use Rattle.node.specs.Calls.{guarded, seal, sealed_frame, written, take-frame, next_number}
+use Rattle.node.specs.Calls.{guarded, seal, sealed_frame, written, take_frame, next_number}
 use Rattle.node.specs.Stands.{Stands, Told}
 use Rattle.node.specs.Orders.{given}
 
@@ -42,7 +42,7 @@ module _ {H A : Type 0} (next : H → H) (f : Face) where
   abbrev pub Heard : Model → Node H A → Node H A → List ℕ → Result ℕ Refusal → Result (Result Order Refusal) Refusal → Type 0
   Heard lamp l0 l1 frame (Err e) r = (r ≡ Err e) × (l1 ≡ l0)
   Heard lamp l0 l1 frame (Ok n) (Err e) = ⊥
-  Heard lamp l0 l1 frame (Ok n) (Ok taken) = Told next f l0 l1 (given taken) (guarded lamp (take-frame f lamp frame))
+  Heard lamp l0 l1 frame (Ok n) (Ok taken) = Told next f l0 l1 (given taken) (guarded lamp (take_frame f lamp frame))
 
   -- cabinet and lamp before and after, the place to write before and after, and the answer
   pub record Delivered (cabinet lamp : Model) (c0 c1 l0 l1 : Node H A) (slot kind : ℕ) (body : List ℕ) (address : ℕ) (out0 out1 : List ℕ) (r : Result (Result Order Refusal) Refusal) : Type 0 where

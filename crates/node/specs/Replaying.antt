@@ -10,7 +10,7 @@ use Rattle.node.specs.declared.replay.Call.TheVariants.{Install, Clear, Open, Fe
 use Rattle.node.specs.declared.replay.Answer.{Answer}
 use Rattle.node.specs.declared.replay.Report.{Report}
 use Rattle.node.specs.Model.{Model, After}
-use Rattle.node.specs.Calls.{guarded, install, clear, open_lane, feed, finish, tag_at, judge, drop-lane, seal, sealed_frame, take-frame, carry, decline}
+use Rattle.node.specs.Calls.{guarded, install, clear, open_lane, feed, finish, tag_at, judge, drop_lane, seal, sealed_frame, take_frame, carry, decline}
 use Rattle.node.specs.Stands.{Stands}
 use Rattle.node.specs.Replies.{done_of, tag_of, verdict_of, frame_of, fields_of}
 
@@ -39,10 +39,10 @@ performed f m (Open lane slot) = act done_of (guarded m (open_lane f m lane slot
 performed f m (Feed lane piece) = act done_of (guarded m (feed f m lane piece.now))
 performed f m (Finish lane room) = act (tag_of (placed 32 (tag_at f m lane))) (guarded m (finish f m lane (min room 32)))
 performed f m (Judge lane tag) = act verdict_of (guarded m (judge f m lane tag.now))
-performed f m (Drop lane) = act done_of (guarded m (drop-lane f m lane))
+performed f m (Drop lane) = act done_of (guarded m (drop_lane f m lane))
 performed f m (Seal slot kind body address room) =
     act (frame_of (placed 295 (sealed_frame f m slot kind body.now address))) (guarded m (seal f m slot kind body.now (min room 295)))
-performed f m (Take frame) = act fields_of (guarded m (take-frame f m frame.now))
+performed f m (Take frame) = act fields_of (guarded m (take_frame f m frame.now))
 performed f m (Carry order) = act done_of (guarded m (carry f m order))
 performed f m (Decline order) = act done_of (guarded m (decline f m order))
 

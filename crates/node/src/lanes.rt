@@ -2,7 +2,7 @@
 ghost use Rattle.std.specs.Prelude.{◌≡◌, ℕ, List, length, None};
 ghost use Rattle.mac.specs.Promises.{wiped};
 ghost use Rattle.node.specs.Model.{Model};
-ghost use Rattle.node.specs.Calls.{guarded, open_lane, feed, drop-lane, finish, judge, tag_at, written};
+ghost use Rattle.node.specs.Calls.{guarded, open_lane, feed, drop_lane, finish, judge, tag_at, written};
 ghost use Rattle.node.specs.Stands.{Stands, Obeys};
 
 use crate::Node;
@@ -68,7 +68,7 @@ impl<H: Hash, A: Algorithm<H>> Node<H, A> {
 
     // Frees a lane.
     pub fn drop_lane(&mut self, lane: usize) -> Result<(), Refusal>
-        ensures { Obeys H.Hash.next A.Algorithm.face self.old self.new result (λ m. guarded m (drop-lane A.Algorithm.face m lane)) }
+        ensures { Obeys H.Hash.next A.Algorithm.face self.old self.new result (λ m. guarded m (drop_lane A.Algorithm.face m lane)) }
     {
         let refusal = self.refusal;
         if let Some(e) = refusal {
@@ -78,7 +78,7 @@ impl<H: Hash, A: Algorithm<H>> Node<H, A> {
     }
 
     fn free_lane(&mut self, lane: usize) -> Result<(), Refusal>
-        ensures { Obeys H.Hash.next A.Algorithm.face self.old self.new result (λ m. drop-lane A.Algorithm.face m lane) }
+        ensures { Obeys H.Hash.next A.Algorithm.face self.old self.new result (λ m. drop_lane A.Algorithm.face m lane) }
     {
         if lane >= 4 {
             return Err(Refusal::NoLane);

@@ -3,7 +3,7 @@ ghost use Rattle.std.specs.Prelude.{◌≡◌, ℕ, ◌<◌, List, length, is_so
 ghost use Rattle.refusals.specs.Questions.{first_refusal};
 ghost use Rattle.mac.specs.Promises.{wiped};
 ghost use Rattle.node.specs.Model.{Model};
-ghost use Rattle.node.specs.Calls.{guarded, seal, sealed_frame, written, take-frame, carry, decline};
+ghost use Rattle.node.specs.Calls.{guarded, seal, sealed_frame, written, take_frame, carry, decline};
 ghost use Rattle.node.specs.Stands.{Stands, Obeys};
 ghost use Rattle.node.specs.Taking.{further, Answered, AskedFrame, AskedSeal};
 ghost use Rattle.node.specs.Orders.{given, ended, GivenBack};
@@ -104,7 +104,7 @@ impl<H: Hash, A: Algorithm<H>> Node<H, A> {
 
     // Takes a frame: where its tag is right and its number new, gives its order.
     pub fn take(&mut self, frame: &[u8], work: &mut [u8; 64]) -> Result<Order, Refusal>
-        ensures obeys { Obeys H.Hash.next A.Algorithm.face self.old self.new (given result) (λ m. guarded m (take-frame A.Algorithm.face m frame.now)) }
+        ensures obeys { Obeys H.Hash.next A.Algorithm.face self.old self.new (given result) (λ m. guarded m (take_frame A.Algorithm.face m frame.now)) }
         ensures zeroed { work.new ≡ wiped }
     {
         let refusal = self.refusal;
@@ -117,7 +117,7 @@ impl<H: Hash, A: Algorithm<H>> Node<H, A> {
 
     fn take_order(&mut self, frame: &[u8], work: &mut [u8; 64]) -> Result<Order, Refusal>
         requires { self.old.refusal ≡ None }
-        ensures obeys { Obeys H.Hash.next A.Algorithm.face self.old self.new (given result) (λ m. take-frame A.Algorithm.face m frame.now) }
+        ensures obeys { Obeys H.Hash.next A.Algorithm.face self.old self.new (given result) (λ m. take_frame A.Algorithm.face m frame.now) }
         ensures zeroed { work.new ≡ wiped }
     {
         let guard = Wipe { block: work };

@@ -17,7 +17,7 @@ loop-call-init g c =
       search rules,
       search rules,
       k,
-      points_first (Law f added c.args.t c.args.address (g.H.Hash.reading first.hash)) c.args.calls.now (vec_items c.in-ok-answers.answers) (vec_items c.reserve.new.self) c.report.result (search rules)
+      points_first (Law f added c.args.t c.args.address (g.H.Hash.reading first.hash)) c.args.calls.now (vec_items c.in_ok-answers.answers) (vec_items c.reserve.new.self) c.report.result (search rules)
           (law_of g.H.Hash.next f g.H.Hash.reading g.met.H.Hash.capped g.met.H.Hash.counts added c.args.t c.args.address first.hash first [] c.report.result k c.report.ensures),
     )
 

@@ -8,14 +8,14 @@ use Rattle.history.proofs.log_pair.Goals as goal
 pub returns : goal.returns
 returns g c =
     let f = g.A.Algorithm.face in
-    let one = c.in-ok-one.ensures.ran in
-    let two = c.in-ok-two.ensures.ran in
+    let one = c.in_ok-one.ensures.ran in
+    let two = c.in_ok-two.ensures.ran in
     record {
       one = one;
       other = two;
       alike = λ start k le le' al.
-          let h = history (take k c.args.calls.now) (take k (vec_items c.in-ok-one.one.answers)) in
-          let h' = history (take k c.args.others.now) (take k (vec_items c.in-ok-two.two.answers)) in
+          let h = history (take k c.args.calls.now) (take k (vec_items c.in_ok-one.one.answers)) in
+          let h' = history (take k c.args.others.now) (take k (vec_items c.in_ok-two.two.answers)) in
           (one.2 k le).reading
           ∙ ap (moved (g.H.Hash.reading c.args.hash)) (same_cost f g.H.Hash.meaning.added c.args.t c.args.address c.args.other_address h h' al (one.2 k le).answered (two.2 k le').answered)
           ∙ ap (λ x. moved x (cost f h')) start

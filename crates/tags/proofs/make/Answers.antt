@@ -20,7 +20,7 @@ returns g c =
     let n = length message in
     let pass = passed f added t (length key) n (length out) c.requires.open in
     let few = pass.few in
-    let expanded = c.in-ok-record.ensures.made.made pass.key in
+    let expanded = c.in_ok-record.ensures.made.made pass.key in
     let begun = c.begin-run.ensures key expanded.0 in
     let joined = c.add.ensures.joined key [] begun (let z : 0 + n ≤ f.row.message = omega arith in z) in
     let ended = c.end.ensures.ended.tagged key message joined.1 pass.tag pass.fits in

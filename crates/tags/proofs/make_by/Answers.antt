@@ -2,13 +2,13 @@ use Rattle.std.proofs.Common.{◌≡◌, sym, refl, ap, ◌∙◌, rules}
 use Rattle.tags.specs.Tag.{answered_by, tag_by}
 use Rattle.tags.proofs.make_by.Goals as goal
 
-pub returns-in-default : goal.returns-in-default
+pub returns-in_default : goal.returns-in_default
 unfolding answered_by tag_by
-returns-in-default c = search rules
+returns-in_default c = search rules
 
-pub returns-in-default-hash : goal.returns-in-default-hash
+pub returns-in_default-hash : goal.returns-in_default-hash
 unfolding answered_by tag_by
-returns-in-default-hash c = search rules
+returns-in_default-hash c = search rules
 
 pub returns-in-OfRipemd160 : goal.returns-in-OfRipemd160
 unfolding answered_by tag_by

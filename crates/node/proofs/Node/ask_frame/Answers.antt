@@ -1,6 +1,6 @@
 use Rattle.node.proofs.Asked.{asks_unread, asks_no, asks_all}
 use Rattle.node.proofs.Node.ask_frame.Goals as goal
-use Rattle.std.proofs.Common.{ℕ, sym, ap, ◌∙◌}
+use Rattle.std.proofs.Common.{sym, ap}
 use Rattle.frame.specs.declared.Header.{Header}
 
 pub returns-in-Ok-further : goal.returns-in-Ok-further

@@ -10,8 +10,8 @@ returns-then-lane-ge4 g c = obeys_refused g.H.Hash.next g.A.Algorithm.face c.arg
 pub returns-then-slot-ge8 : goal.returns-then-slot-ge8
 returns-then-slot-ge8 g c = obeys_refused g.H.Hash.next g.A.Algorithm.face c.args.self.now _ _ (λ m st. open_no_slot g.H.Hash.next g.A.Algorithm.face g.A.Algorithm.laws c.args.self.now m st c.args.lane free c.args.slot c.if-lane-ge4.false c.if-slot-ge8.true)
 
-pub returns-in-default : goal.returns-in-default
-returns-in-default g c = obeys_refused g.H.Hash.next g.A.Algorithm.face c.args.self.now _ _ (λ m st. open_empty g.H.Hash.next g.A.Algorithm.face g.A.Algorithm.laws c.args.self.now m st c.args.lane free c.args.slot c.if-lane-ge4.false c.if-slot-ge8.false c.in-default.is)
+pub returns-in_default : goal.returns-in_default
+returns-in_default g c = obeys_refused g.H.Hash.next g.A.Algorithm.face c.args.self.now _ _ (λ m st. open_empty g.H.Hash.next g.A.Algorithm.face g.A.Algorithm.laws c.args.self.now m st c.args.lane free c.args.slot c.if-lane-ge4.false c.if-slot-ge8.false c.in_default.is)
 
 pub returns-then-self-lane : goal.returns-then-self-lane
 returns-then-self-lane g c = obeys_refused g.H.Hash.next g.A.Algorithm.face c.args.self.now _ _ (λ m st. open_busy g.H.Hash.next g.A.Algorithm.face g.A.Algorithm.laws c.args.self.now m st c.args.lane _ c.args.slot c.in-Some.record c.if-lane-ge4.false c.if-slot-ge8.false c.in-Some.is c.if-self-lane.true)

@@ -1,6 +1,6 @@
 use Rattle.std.proofs.Common.{rules}
 use Rattle.node.proofs.Steps.{obeys_refused}
-use Rattle.node.proofs.Takes.{take-refused, takes_wrong, takes, taken_slot}
+use Rattle.node.proofs.Takes.{take_refused, takes_wrong, takes, taken_slot}
 use Rattle.node.proofs.Node.take_order.Goals as goal
 
 pub returns-then-not-is_signed : goal.returns-then-not-is_signed
@@ -22,6 +22,6 @@ returns-in-Ok g c = record {
 
 pub returns : goal.returns
 returns g c = record {
-  obeys = obeys_refused g.H.Hash.next g.A.Algorithm.face c.args.self.now _ _ (λ m st. take-refused g.H.Hash.next g.A.Algorithm.face c.args.self.now m st c.args.frame.now c.in-Err.e c.in-Err.ensures);
+  obeys = obeys_refused g.H.Hash.next g.A.Algorithm.face c.args.self.now _ _ (λ m st. take_refused g.H.Hash.next g.A.Algorithm.face c.args.self.now m st c.args.frame.now c.in-Err.e c.in-Err.ensures);
   zeroed = search rules;
 }

@@ -1,5 +1,5 @@
 use Rattle.std.proofs.Common.{◌≡◌, ℕ, ◌-◌, ◌<◌, take, Ok, Err, Result, sym, refl, ap, ◌∙◌, subst, arith, rules}
-use Rattle.node.specs.Calls.{guarded, take-frame, sealed_frame, written}
+use Rattle.node.specs.Calls.{guarded, take_frame, sealed_frame, written}
 use Rattle.node.specs.Stands.{Told}
 use Rattle.node.specs.Orders.{given}
 use Rattle.node.specs.Handing.{Heard}
@@ -8,12 +8,20 @@ use Rattle.node.proofs.handing.seal_and_take.Goals as goal
 
 pub returns-in-Ok : goal.returns-in-Ok
 returns-in-Ok g c = record {
-  handed = λ m l sm sl.
+  handed = λ m l sm sl ready.
       let f = g.A.Algorithm.face in
       let told = c.in-Ok.ensures.obeys m sm in
       let S = sealed_frame f m c.args.slot c.args.kind c.args.body.now c.args.address in
       let isS = cut_out f m c.args.slot c.args.kind c.args.address c.in-Ok.n c.args.body.now c.args.frame.now c.seal-sealed.new.out _ g.met.A.Algorithm.sized sm.fits told.answer (c.in-Ok.ensures.written m sm) (ap (λ (i : ℕ). take (i - 0) c.seal-sealed.new.out) c.min-end.ensures) in
-      let took = subst (λ x. Told g.H.Hash.next f c.args.lamp.now c.take.new.self (given c.take.result) (guarded l (take-frame f l x))) isS (c.take.ensures.obeys l sl) in
+      let took = subst (λ x. Told g.H.Hash.next f c.args.lamp.now c.take.new.self (given c.take.result) (guarded l (take_frame f l x))) isS (c.take.ensures.obeys l sl) in
+      let low : c.args.address < 65536 = search rules in
+      took.answer ∙ handed f m c.args.slot c.args.kind c.args.address c.in-Ok.n c.args.body.now c.args.frame.now c.seal-sealed.new.out S g.met.A.Algorithm.sized sm.fits told.answer l low ready;
+  delivered = λ m l sm sl.
+      let f = g.A.Algorithm.face in
+      let told = c.in-Ok.ensures.obeys m sm in
+      let S = sealed_frame f m c.args.slot c.args.kind c.args.body.now c.args.address in
+      let isS = cut_out f m c.args.slot c.args.kind c.args.address c.in-Ok.n c.args.body.now c.args.frame.now c.seal-sealed.new.out _ g.met.A.Algorithm.sized sm.fits told.answer (c.in-Ok.ensures.written m sm) (ap (λ (i : ℕ). take (i - 0) c.seal-sealed.new.out) c.min-end.ensures) in
+      let took = subst (λ x. Told g.H.Hash.next f c.args.lamp.now c.take.new.self (given c.take.result) (guarded l (take_frame f l x))) isS (c.take.ensures.obeys l sl) in
       let low : c.args.address < 65536 = search rules in
       record {
         sealed = told.model;
@@ -30,7 +38,8 @@ returns-in-Ok g c = record {
 
 pub returns-in-Err : goal.returns-in-Err
 returns-in-Err g c = record {
-  handed = λ m l sm sl.
+  handed = λ m l sm sl. sym (c.in-Err.ensures.obeys m sm).answer;
+  delivered = λ m l sm sl.
       let f = g.A.Algorithm.face in
       let told = c.in-Err.ensures.obeys m sm in
       let S = sealed_frame f m c.args.slot c.args.kind c.args.body.now c.args.address in

@@ -65,7 +65,7 @@ returns-in-Finish g c = record {
       let f = g.A.Algorithm.face in
       let tag = tag_at f m c.in-Finish.lane in
       let r = c.finish_at-r.result in
-      let place = c.tagged.ensures ∙ ap (λ o. tag_of o r) (c.finish_at-r.ensures.written m st) ∙ tag_placed f m r tag (replicate 32 0) in
+      let place = c.tagged.ensures ∙ ap (λ o. tag_of o r) (c.finish_at-r.ensures.place m st) ∙ tag_placed f m r tag (replicate 32 0) in
       acted g.H.Hash.next f m _ _ (tag_of (placed 32 tag)) _ _ _ _ _ c.in-Finish.is place (c.finish_at-r.ensures.obeys m st) refl;
   narrow = subst Narrow (sym c.in-Finish.is) tt;
 }
@@ -76,7 +76,7 @@ returns-in-Seal g c = record {
       let f = g.A.Algorithm.face in
       let frame = sealed_frame f m c.in-Seal.slot c.in-Seal.kind c.in-Seal.body.now c.in-Seal.address in
       let r = c.seal_at-r.result in
-      let place = c.framed.ensures ∙ ap (λ o. frame_of o r) (c.seal_at-r.ensures.written m st) ∙ frame_placed f m r frame (replicate 295 0) in
+      let place = c.framed.ensures ∙ ap (λ o. frame_of o r) (c.seal_at-r.ensures.place m st) ∙ frame_placed f m r frame (replicate 295 0) in
       acted g.H.Hash.next f m _ _ (frame_of (placed 295 frame)) _ _ _ _ _ c.in-Seal.is place (c.seal_at-r.ensures.obeys m st) refl;
   narrow = subst Narrow (sym c.in-Seal.is) (search rules);
 }

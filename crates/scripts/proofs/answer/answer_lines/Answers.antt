@@ -10,7 +10,7 @@ put_reply-requires c = omega arith
 
 pub loop-line-preserved : goal.loop-line-preserved
 loop-line-preserved c =
-    told_more _ _ c.args.lines.now c.loop-line.line-index c.line-item.result c.loop-line.stage _ (vec_items c.loop-line.out) _ _ c.loop-line-test.true c.line-item.is c.in-ok-next.ensures.0 c.in-ok-next.ensures.1 c.in-ok-push.ensures.items c.loop-line.invariant
+    told_more _ _ c.args.lines.now c.loop-line.line-index c.line-item.result c.loop-line.stage _ (vec_items c.loop-line.out) _ _ c.loop-line-test.true c.line-item.is c.in_ok-next.ensures.0 c.in_ok-next.ensures.1 c.in_ok-push.ensures.items c.loop-line.invariant
 
 pub returns : goal.returns
 returns c = told_all _ _ c.args.lines.now c.loop-line.line-index c.loop-line.stage (vec_items c.loop-line.out) c.loop-line-test.false c.loop-line.invariant

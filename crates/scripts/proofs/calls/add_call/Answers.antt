@@ -5,6 +5,6 @@ use Rattle.scripts.specs.Told.{told}
 use Rattle.scripts.proofs.Calling.{call_pushed}
 use Rattle.scripts.proofs.calls.add_call.Goals as goal
 
-pub returns-in-ok-push : goal.returns-in-ok-push
-returns-in-ok-push c =
-    call_pushed _ _ c.call_of.result _ (told c.in-Some.command) c.in-ok-push.ensures.items (ap (option_map told) c.in-Some.is) (ap is_call c.in-Calling.is) c.call_of.ensures
+pub returns-in_ok-push : goal.returns-in_ok-push
+returns-in_ok-push c =
+    call_pushed _ _ c.call_of.result _ (told c.in-Some.command) c.in_ok-push.ensures.items (ap (option_map told) c.in-Some.is) (ap is_call c.in-Calling.is) c.call_of.ensures

@@ -11,7 +11,7 @@ loop-line-init c = ap (map spelled) c.new-calls.ensures.items
 
 pub loop-line-preserved : goal.loop-line-preserved
 loop-line-preserved c =
-    calls_more c.args.lines.now c.loop-line.line-index c.line-item.result _ _ c.loop-line-test.true c.line-item.is c.in-ok-add_call.ensures c.loop-line.invariant
+    calls_more c.args.lines.now c.loop-line.line-index c.line-item.result _ _ c.loop-line-test.true c.line-item.is c.in_ok-add_call.ensures c.loop-line.invariant
 
 pub returns : goal.returns
 returns c = c.loop-line.invariant ∙ ap (λ l. calls_asked (map (option_map told) l)) (take_all c.loop-line.line-index c.args.lines.now c.loop-line-test.false)

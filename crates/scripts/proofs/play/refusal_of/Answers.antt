@@ -2,13 +2,13 @@ use Rattle.std.proofs.Common.{rules}
 use Rattle.scripts.specs.Making.{refusal_at_making}
 use Rattle.scripts.proofs.play.refusal_of.Goals as goal
 
-pub returns-in-default : goal.returns-in-default
+pub returns-in_default : goal.returns-in_default
 unfolding refusal_at_making
-returns-in-default c = search rules
+returns-in_default c = search rules
 
-pub returns-in-default-hash : goal.returns-in-default-hash
+pub returns-in_default-hash : goal.returns-in_default-hash
 unfolding refusal_at_making
-returns-in-default-hash c = search rules
+returns-in_default-hash c = search rules
 
 pub returns-in-OfRipemd160 : goal.returns-in-OfRipemd160
 unfolding refusal_at_making

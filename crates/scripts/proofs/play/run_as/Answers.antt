@@ -4,11 +4,11 @@ use Rattle.tags.specs.declared.HashKind.TheVariants.{OfRipemd160, OfSha1, OfSha2
 use Rattle.scripts.proofs.Playing.{played, played_none, played_no_hash}
 use Rattle.scripts.proofs.play.run_as.Goals as goal
 
-pub returns-in-default : goal.returns-in-default
-returns-in-default c = played_none c.args.making _ _ _ c.in-default.is
+pub returns-in_default : goal.returns-in_default
+returns-in_default c = played_none c.args.making _ _ _ c.in_default.is
 
-pub returns-in-default-hash : goal.returns-in-default-hash
-returns-in-default-hash c = played_no_hash c.args.making _ _ _ c.in-Some.algorithm c.in-Some.is c.in-default-hash.is
+pub returns-in_default-hash : goal.returns-in_default-hash
+returns-in_default-hash c = played_no_hash c.args.making _ _ _ c.in-Some.algorithm c.in-Some.is c.in_default-hash.is
 
 pub returns-in-OfRipemd160 : goal.returns-in-OfRipemd160
 returns-in-OfRipemd160 c =

@@ -8,4 +8,4 @@ returns-then-line-gt-LINE_BYTES c = line_long c.args.line.now c.if-line-gt-LINE_
 
 pub returns : goal.returns
 returns c =
-    IfOk-weaker c.words_in.result _ _ (λ o e. line_short c.args.line.now c.deref.result.now _ c.if-line-gt-LINE_BYTES.false (ap texts_of c.deref.ensures.value ∙ c.in-ok-words.ensures) e) c.words_in.ensures
+    IfOk-weaker c.words_in.result _ _ (λ o e. line_short c.args.line.now c.deref.result.now _ c.if-line-gt-LINE_BYTES.false (ap texts_of c.deref.ensures.value ∙ c.in_ok-words.ensures) e) c.words_in.ensures

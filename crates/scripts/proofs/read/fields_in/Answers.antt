@@ -12,11 +12,11 @@ returns-then-texts-form c =
 
 pub returns-then-not-branch : goal.returns-then-not-branch
 returns-then-not-branch c =
-    field_not c.form-form.result.now c.args.texts.now c.loop-i.i _ _ (omega arith) (omega arith) c.loop-i.draft c.add_field.new.draft c.in-ok-add_field.field-0 _ c.if-not-branch.true c.in-ok-add_field.ensures (c.loop-i.invariant ∙ fields_begin c.args.verb c.new.result c.new-2.result c.form-form.result.now c.args.texts.now c.new.ensures.items c.new-2.ensures.items c.form-form.ensures)
+    field_not c.form-form.result.now c.args.texts.now c.loop-i.i _ _ (omega arith) (omega arith) c.loop-i.draft c.add_field.new.draft c.in_ok-add_field.field-0 _ c.if-not-branch.true c.in_ok-add_field.ensures (c.loop-i.invariant ∙ fields_begin c.args.verb c.new.result c.new-2.result c.form-form.result.now c.args.texts.now c.new.ensures.items c.new-2.ensures.items c.form-form.ensures)
 
 pub loop-i-preserved : goal.loop-i-preserved
 loop-i-preserved c =
-    field_more c.form-form.result.now c.args.texts.now c.loop-i.i _ _ (omega arith) (omega arith) c.loop-i.draft c.add_field.new.draft c.in-ok-add_field.field-0 _ c.if-not-branch.false c.in-ok-add_field.ensures c.loop-i.invariant
+    field_more c.form-form.result.now c.args.texts.now c.loop-i.i _ _ (omega arith) (omega arith) c.loop-i.draft c.add_field.new.draft c.in_ok-add_field.field-0 _ c.if-not-branch.false c.in_ok-add_field.ensures c.loop-i.invariant
 
 pub returns : goal.returns
 returns c =

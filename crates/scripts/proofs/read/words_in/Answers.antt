@@ -6,8 +6,8 @@ use Rattle.scripts.proofs.read.words_in.Goals as goal
 pub returns-then-words-eq0 : goal.returns-then-words-eq0
 returns-then-words-eq0 c = words_none c.args.words.now c.if-words-eq0.true
 
-pub returns-in-default : goal.returns-in-default
-returns-in-default c = words_some c.args.words.now _ None (omega arith) c.in-default.ensures
+pub returns-in_default : goal.returns-in_default
+returns-in_default c = words_some c.args.words.now _ None (omega arith) c.in_default.ensures
 
 pub returns : goal.returns
 returns c =

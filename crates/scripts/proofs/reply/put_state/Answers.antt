@@ -6,5 +6,5 @@ use Rattle.scripts.proofs.reply.put_state.Goals as goal
 pub returns : goal.returns
 returns c =
     IfOk-weaker c.put_spaced.result _ _
-    (λ x e. joins (vec_items c.args.out.now) _ _ _ _ (c.in-ok-put_decimal.ensures.items ∙ ap (λ n. vec_items c.args.out.now ++ decimal n) c.from.ensures) e)
+    (λ x e. joins (vec_items c.args.out.now) _ _ _ _ (c.in_ok-put_decimal.ensures.items ∙ ap (λ n. vec_items c.args.out.now ++ decimal n) c.from.ensures) e)
     c.put_spaced.ensures

@@ -6,8 +6,8 @@ use Rattle.scripts.proofs.script.lines_in.Goals.{then-n-gt0+then-index-eq0, else
 
 pub returns : goal.returns
 returns c =
-    let v = c.in-ok-lines.lines in
-    let is = c.in-ok-lines.ensures in
+    let v = c.in_ok-lines.lines in
+    let is = c.in_ok-lines.ensures in
     let len = c.len-n.ensures ∙ v.ok.0 in
     elim c.if-n-gt0.branch [
       | then-n-gt0+then-index-eq0 w ↦ ap (λ l. texts_of (vec_items l)) w.lines-is ∙ lines_cut (vec_items v) _ c.len-n.result is len w.index.result.now w.index.ensures _ w.truncate.ensures.items (omega arith) w.if-index-eq0.true

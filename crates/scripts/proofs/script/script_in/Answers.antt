@@ -6,4 +6,4 @@ use Rattle.scripts.proofs.script.script_in.Goals as goal
 
 pub returns : goal.returns
 returns c =
-    IfOk-weaker c.commands_in.result _ _ (λ v e. e ∙ ap (map said_by) (ap texts_of c.deref.ensures.value ∙ c.in-ok-lines.ensures)) c.commands_in.ensures
+    IfOk-weaker c.commands_in.result _ _ (λ v e. e ∙ ap (map said_by) (ap texts_of c.deref.ensures.value ∙ c.in_ok-lines.ensures)) c.commands_in.ensures

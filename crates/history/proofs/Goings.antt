@@ -1,8 +1,8 @@
 -- Each call keeps the agreement of a model with its history. Assumes nothing.
-use Rattle.std.proofs.Common.{◌≡◌, ℕ, ◌+◌, ◌-◌, ◌%◌, ◌<◌, ◌≤◌, min, Bool, true, false, cond, not, ◌&&◌, ◌||◌, eqb, ltb, leb, List, [], ◌∷◌, ◌++◌, length, get_or, take, drop, set, replicate, is_some, Some, None, Ok, Err, Decides, Option, Result, unwrap_or, sym, refl, ap, ◌∙◌, subst, append_assoc, arith, length-append, Bor, ltb-true, leb-true}
+use Rattle.std.proofs.Common.{◌≡◌, ℕ, ◌+◌, ◌-◌, ◌<◌, ◌≤◌, min, Bool, true, false, cond, not, ◌&&◌, ◌||◌, eqb, ltb, leb, List, [], ◌∷◌, ◌++◌, length, get_or, take, drop, replicate, is_some, Some, None, Err, Decides, Option, Result, unwrap_or, sym, refl, ap, ◌∙◌, subst, arith, length-append, Bor, ltb-true}
 use borrow.Author.Tests.{both_ways}
 use Rattle.std.proofs.lemmas.Bool.{eq-eqb, ne_eqb}
-use Rattle.std.proofs.lemmas.List.{take-append-drop, take_at}
+use Rattle.std.proofs.lemmas.List.{take_at}
 use Rattle.std.proofs.lemmas.Slice.Eq.{bytes_eq-Decides}
 use Rattle.std.specs.List.{AllByRecursion as All}
 use Rattle.std.specs.Str.{bytes_eq}
@@ -11,9 +11,9 @@ use Rattle.hash.proofs.Turns.{after_after}
 use Rattle.refusals.specs.Numbers.{number}
 use Rattle.refusals.specs.Questions.{Question, asks, first_refusal}
 use Rattle.refusals.specs.declared.Refusal.{Refusal}
-use Rattle.refusals.specs.declared.Refusal.TheVariants.{NoAddedWords, TagLength, OwnAddress, KeyLength, MessageLength, Room, NoSlot, SlotEmpty, NoLane, LaneBusy, NotBegun, TagSize, NumbersSpent, WrongTag, Address, OldNumber, OrderInHand, NotInHand}
+use Rattle.refusals.specs.declared.Refusal.TheVariants.{NoAddedWords, TagLength, KeyLength, MessageLength, Room, NoSlot, SlotEmpty, NoLane, LaneBusy, NotBegun, NumbersSpent, WrongTag, Address, OldNumber, OrderInHand}
 use Rattle.mac.specs.Face.{Face, Laws, within}
-use Rattle.frame.specs.Layout.{header_of, bytes_of_header, body_of, signed_part, tag_in}
+use Rattle.frame.specs.Layout.{header_of, bytes_of_header, signed_part, tag_in}
 use Rattle.frame.specs.Reading.{body_questions}
 use Rattle.frame.specs.Reading as reading
 use Rattle.history.proofs.Frames.{frame_plain, slot_low, header_first, front_long}
@@ -29,13 +29,12 @@ use Rattle.node.specs.declared.replay.Answer.TheVariants.{Refused, Done, Tag, Ve
 use Rattle.node.specs.Asking.{making_q, install_q, clear_q, open_q, feed_q, drop_q, finish_q, judge_q, seal_q, frame_q, end_q, addressed}
 use Rattle.node.specs.Model.{Model, Opened, After, refused, unless, key_at, run_at, fed_of, with_slot, with_lane, with_desk}
 use Rattle.node.specs.Model as model
-use Rattle.node.specs.Calls.{guarded, install, clear, open_lane, feed, drop_lane, finish, judge, seal, take_frame, tried, carry, decline, key_of, bytes_of, joined, tag_at, sealed_front, sealed_frame, next_number, desk_sealed, desk_taken, desk_carried, desk_declined, order_of}
-use Rattle.node.specs.Stands.{Stands}
+use Rattle.node.specs.Calls.{guarded, install, clear, open_lane, feed, drop_lane, finish, judge, seal, take_frame, tried, carry, decline, key_of, bytes_of, joined, tag_at, sealed_frame, desk_sealed, desk_taken, desk_carried, desk_declined, order_of}
 use Rattle.node.specs.Replaying.{Act, act, placed, performed, Narrow, Performs}
 use Rattle.node.specs.Replies.{done_of, tag_of, verdict_of, frame_of, fields_of}
-use Rattle.history.specs.History.{Event, event, AtSlot, AtLane, AtDesk, at_slot, at_lane, at_desk, refusal_in, accepted, compared, slot_deed, lane_deed, desk_deed, key_in, key_after, Runs, fed_more, fed_bytes, order_in, order_held, numbers_taken, frame_in, number_written, numbers_sealed, newest}
-use Rattle.history.specs.Law.{Always, Right, Answered, Taken, questions, asked, right_tag, front, cost, settled, open_rounds, held_rounds, whole_rounds}
-use Rattle.history.specs.Keeps.{Keys, Lanes, Books, Agrees, Keeps}
+use Rattle.history.specs.History.{Event, event, AtSlot, AtLane, AtDesk, at_slot, at_lane, at_desk, accepted, compared, slot_deed, lane_deed, desk_deed, key_in, key_after, Runs, fed_more, fed_bytes, order_in, order_held, numbers_taken, frame_in, numbers_sealed, newest}
+use Rattle.history.specs.Law.{Right, Answered, Taken, questions, asked, right_tag, cost, settled, held_rounds, whole_rounds}
+use Rattle.history.specs.Keeps.{Books, Agrees, Keeps}
 use Rattle.history.proofs.Parts.{passes, joined_none, joined_some, both_none, first_of, refuses, keys_kept, keys_set, lanes_kept, lanes_set, books_kept, books_sealed, books_taken, books_carried, books_declined, cost_kept, cost_lane}
 
 -- no question of these is whether a tag is right

@@ -1,13 +1,12 @@
 -- Lists alike cost the same. Assumes nothing.
-use Rattle.std.proofs.Common.{◌≡◌, ℕ, ◌+◌, Bool, true, false, cond, ◌||◌, eqb, List, [], ◌∷◌, length, Some, None, Option, sym, refl, ap, ◌∙◌, subst, arith}
+use Rattle.std.proofs.Common.{◌≡◌, ℕ, ◌+◌, Bool, true, false, cond, ◌||◌, eqb, List, [], ◌∷◌, length, Some, None, Option, sym, refl, ap, ◌∙◌, arith}
 use Rattle.mac.specs.Face.{Face}
 use Rattle.frame.specs.Layout.{header_of}
 use Rattle.node.specs.declared.replay.Call.{Call}
-use Rattle.node.specs.declared.replay.Call.TheVariants.{Take}
 use Rattle.node.specs.declared.replay.Answer.{Answer}
 use Rattle.history.specs.History.{Event, AtLane, at_lane, lane_deed, accepted, compared, answer_number, fed_more, fed_bytes}
 use Rattle.history.specs.Law.{Always, Answered, Right, cost, settled, all_settled, open_rounds, whole_rounds, held_rounds}
-use Rattle.history.specs.Alike.{Alike, AlikeCalls, AlikeEvents}
+use Rattle.history.specs.Alike.{Alike, AlikeCalls}
 use Rattle.history.specs.Alike.AlikeCalls.{installs, clears, opens, feeds, finishes, judges, drops, seals, takes, carries, declines}
 
 same_length : (p p' : List ℕ) → length p ≡ length p' → (n : Option ℕ) → fed_more (AtLane.adds p) n ≡ fed_more (AtLane.adds p') n

@@ -1,5 +1,5 @@
 -- Questions one after another, and how each part of the agreement goes on by one event. Assumes nothing.
-use Rattle.std.proofs.Common.{◌≡◌, ℕ, zero, suc, ◌+◌, ◌-◌, ◌<◌, ◌≤◌, Bool, true, false, cond, eqb, List, [], ◌∷◌, ◌++◌, length, get_or, set, Some, None, Option, sym, refl, ap, ◌∙◌, subst, ⊎_elim, zero-add, arith}
+use Rattle.std.proofs.Common.{◌≡◌, ℕ, zero, suc, ◌+◌, ◌<◌, ◌≤◌, Bool, true, false, cond, eqb, List, [], ◌∷◌, ◌++◌, length, get_or, set, Some, None, Option, sym, refl, ap, ◌∙◌, subst, ⊎_elim, zero-add, arith}
 use Rattle.std.proofs.lemmas.List.{get_or-set_same, get_or-set_other, length-set}
 use Rattle.std.proofs.lemmas.Bool.{cases_eq}
 use Rattle.std.proofs.ByRecursion.{All-weaker}
@@ -11,7 +11,7 @@ use Rattle.refusals.specs.declared.Refusal.TheVariants.{Unknown, NoAddedWords, K
 use Rattle.mac.specs.Face.{Face}
 use Rattle.node.specs.declared.desk.Desk.{Desk}
 use Rattle.node.specs.declared.desk.Fields.{Fields}
-use Rattle.node.specs.Model.{Model, Opened, fed_of}
+use Rattle.node.specs.Model.{Opened, fed_of}
 use Rattle.node.specs.Calls.{desk_sealed, desk_taken, desk_carried, desk_declined, next_number}
 use Rattle.history.specs.History.{Event, AtSlot, AtLane, AtDesk, slot_deed, lane_deed, desk_deed, key_in, key_after, Runs, fed_more, fed_bytes, order_in, order_after, order_held, number_given, numbers_taken, frame_in, number_written, numbers_sealed, newest, count, is_take, is_carry, is_decline, level_after, level_in}
 use Rattle.history.specs.Law.{Rising, cost, settled, open_rounds, held_rounds, four}

@@ -1,7 +1,7 @@
 -- From the agreement to the law of a whole list. Assumes nothing.
-use Rattle.std.proofs.Common.{◌≡◌, ℕ, zero, suc, ◌+◌, ◌^◌, ◌<◌, ◌≤◌, Bool, true, false, leb, List, [], ◌∷◌, ◌++◌, reverse, length, get_or, take, replicate, Some, None, Option, sym, refl, ap, ◌∙◌, subst, arith, length-append, leb-false, leb-true}
+use Rattle.std.proofs.Common.{◌≡◌, ℕ, zero, suc, ◌+◌, ◌^◌, ◌<◌, ◌≤◌, Bool, true, false, leb, List, [], ◌∷◌, ◌++◌, reverse, length, get_or, take, replicate, None, Option, sym, refl, ap, ◌∙◌, subst, arith, length-append, leb-false, leb-true}
 use Rattle.std.proofs.lemmas.List.{reverse-append, take_more, take_all, take-append-le, get_or_append_left, get_or_push}
-use Rattle.hash.specs.Meter.{after, moved}
+use Rattle.hash.specs.Meter.{moved}
 use Rattle.hash.proofs.Turns.{reads}
 use Rattle.mac.specs.Face.{Face}
 use Rattle.node.specs.declared.Node.{Node}
@@ -9,11 +9,11 @@ use Rattle.node.specs.declared.desk.Desk.{Desk}
 use Rattle.node.specs.declared.replay.Call.{Call}
 use Rattle.node.specs.declared.replay.Answer.{Answer}
 use Rattle.node.specs.declared.replay.Report.{Report}
-use Rattle.node.specs.Model.{Model, Opened, fed_of}
+use Rattle.node.specs.Model.{Opened, fed_of}
 use Rattle.node.specs.Calls.{new}
 use Rattle.node.specs.Replaying.{report_of}
-use Rattle.node.specs.Stands.{Stands, Sound, in_hand}
-use Rattle.history.specs.History.{Event, event, events, history, order_held}
+use Rattle.node.specs.Stands.{Stands, in_hand}
+use Rattle.history.specs.History.{Event, event, events, history}
 use Rattle.history.specs.Law.{Law, report_at, cost}
 use Rattle.history.specs.Keeps.{Keeps}
 

@@ -1,5 +1,5 @@
 -- The means of the proof: a node has come to stand for what its history says. Assumes nothing.
-use Rattle.std.specs.Prelude.{◌≡◌, ℕ, ◌+◌, ◌<◌, ◌≤◌, List, ◌∷◌, length, Some, None, Option, slice_index, slice_index_or}
+use Rattle.std.specs.Prelude.{◌≡◌, ℕ, ◌≤◌, List, ◌∷◌, length, Some, None, Option, slice_index, slice_index_or}
 use Rattle.std.specs.List.{AllByRecursion as All}
 use Rattle.hash.specs.Meter.{after}
 use Rattle.refusals.specs.Questions.{first_refusal}

@@ -2,7 +2,6 @@ use Rattle.std.proofs.Common.{◌≡◌, ◌+◌, ◌<◌, ◌≤◌, [], ◌∷
 use Rattle.history.specs.History.{history}
 use Rattle.history.specs.Law.{Law, report_at}
 use Rattle.history.specs.Keeps.{Keeps}
-use Rattle.history.proofs.Goings.{goes_on}
 use Rattle.history.proofs.Whole.{history_more, points_first, points_more, keeps_new, law_of}
 use Rattle.history.proofs.log_all.Goals as goal
 
@@ -35,10 +34,10 @@ loop-call-preserved g c =
     let reports = vec_items c.loop-call.reports in
     let more : length reports ≡ i + 1 = omega (arith, c.loop-call.invariant.2, c.loop-call.reports.ok.0) in
     let same : length (take i calls) ≡ length items = simp length-take (omega arith) in
-    let n = c.perform-answer.new.self.node in
+    let n = c.perform-answer.new.replay.node in
     let a = c.perform-answer.result in
     let k = subst (Keeps g.H.Hash.next f added c.args.t c.args.address start n) (sym (history_more calls i _ items a lt same))
-    (goes_on g.H.Hash.next f g.A.Algorithm.laws g.met.A.Algorithm.sized added c.args.t c.args.address start c.loop-call.replay.node n (history (take i calls) items) _ a c.perform-answer.ensures.performs c.perform-answer.ensures.narrow c.loop-call.invariant.4) in
+    (c.perform-answer.ensures added c.args.t c.args.address start (history (take i calls) items) c.loop-call.invariant.4) in
     let told = law_of g.H.Hash.next f g.H.Hash.reading g.met.H.Hash.capped g.met.H.Hash.counts added c.args.t c.args.address start n (history (take (i + 1) calls) (items ++ a ∷ [])) c.report-in-loop-call.result k c.report-in-loop-call.ensures in (
       search rules,
       search rules,

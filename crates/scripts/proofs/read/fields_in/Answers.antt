@@ -22,6 +22,7 @@ pub returns : goal.returns
 returns c =
     fields_all c.loop-i.draft c.form-form.result.now c.args.texts.now c.loop-i.i _ c.loop-i-test.false c.if-texts-form.false (c.loop-i.invariant ∙ fields_begin c.args.verb c.new.result c.new-2.result c.form-form.result.now c.args.texts.now c.new.ensures.items c.new-2.ensures.items c.form-form.ensures)
 
-pub invariant-of-result : goal.invariant-of-result
-invariant-of-result c =
-    (read_formed c.args.verb (texts_of c.args.texts.now) (drafted c.loop-i.draft) (fields_all c.loop-i.draft c.form-form.result.now c.args.texts.now c.loop-i.i _ c.loop-i-test.false c.if-texts-form.false (c.loop-i.invariant ∙ fields_begin c.args.verb c.new.result c.new-2.result c.form-form.result.now c.args.texts.now c.new.ensures.items c.new-2.ensures.items c.form-form.ensures)), tt)
+pub invariant_of-result : goal.invariant_of-result
+invariant_of-result c = record {
+  formed = read_formed c.args.verb (texts_of c.args.texts.now) (drafted c.loop-i.draft) (fields_all c.loop-i.draft c.form-form.result.now c.args.texts.now c.loop-i.i _ c.loop-i-test.false c.if-texts-form.false (c.loop-i.invariant ∙ fields_begin c.args.verb c.new.result c.new-2.result c.form-form.result.now c.args.texts.now c.new.ensures.items c.new-2.ensures.items c.form-form.ensures));
+}

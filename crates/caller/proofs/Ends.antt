@@ -1,5 +1,5 @@
 -- An order that was taken is in hand, so that its end is never refused. Assumes nothing.
-use Rattle.std.proofs.Common.{◌≡◌, ℕ, ◌+◌, Bool, true, false, cond, eqb, List, get_or, is_ok, Some, None, Ok, Err, Option, Result, sym, refl, ap, ◌∙◌, subst, arith, eq-eqb}
+use Rattle.std.proofs.Common.{◌≡◌, ℕ, Bool, true, false, cond, List, get_or, is_ok, Some, None, Ok, Err, Option, Result, sym, refl, ap, ◌∙◌, subst, arith, eq-eqb}
 use Rattle.refusals.specs.declared.Refusal.{Refusal}
 use Rattle.refusals.specs.declared.Refusal.TheVariants.{NotInHand}
 use Rattle.refusals.specs.Questions.{first_refusal}
@@ -13,7 +13,7 @@ use Rattle.node.specs.Model.{Model, After, accepted, unless, key_at, with_desk}
 use Rattle.node.specs.Asking.{same_order, frame_q}
 use Rattle.node.specs.Calls.{guarded, take_frame, tried, right_tag, carry, decline, desk_taken, desk_carried, desk_declined, order_of}
 use Rattle.node.specs.Stands.{Stands, Told, Obeys}
-use Rattle.node.specs.Orders.{given, ended}
+use Rattle.node.specs.Orders.{ended}
 use Rattle.caller.specs.Spending.{desk_ended, ends, spent}
 
 same_self : (o : Fields) → same_order o o ≡ true

@@ -1,5 +1,5 @@
 -- Worked cases of the rules: block counts, the repeated key, headers and the range of a level. Assumes nothing.
-use Rattle.std.specs.Prelude.{◌≡◌, List, [], ◌∷◌}
+use Rattle.std.specs.Prelude.{◌≡◌, [], ◌∷◌}
 use Rattle.hash.specs.Meaning.{blocks}
 use Rattle.mdxmac.specs.Mdx.{K'}
 use Rattle.frame.specs.Sealing.{HeaderCases}

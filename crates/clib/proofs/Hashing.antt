@@ -1,5 +1,5 @@
 -- The length of a plain hash, and a place after its first bytes are copied there. Assumes nothing.
-use Rattle.std.proofs.Common.{◌≡◌, ℕ, ◌*◌, ◌≤◌, cond, leb, List, ◌++◌, length, take, drop, sym, ap, ◌∙◌, subst, le-leb}
+use Rattle.std.proofs.Common.{◌≡◌, ℕ, ◌*◌, ◌≤◌, cond, List, ◌++◌, length, take, drop, sym, ap, ◌∙◌, subst, le-leb}
 use Rattle.std.proofs.lemmas.List.{take_at}
 use Rattle.hash.specs.Meaning.{Meaning, chained, blocks, padded, hashed, none}
 use Rattle.hash.proofs.Close.{Keeps, chained_sized, code_sized}

@@ -1,11 +1,11 @@
 -- HMAC is the hash of a hash. Assumes nothing.
-use Rattle.std.proofs.Common.{◌≡◌, ℕ, ◌+◌, ◌-◌, ◌*◌, ◌/◌, ◌%◌, ◌^◌, ◌<◌, ◌≤◌, List, [], ◌∷◌, ◌++◌, length, take, drop, sym, refl, ap, ◌∙◌, arith}
+use Rattle.std.proofs.Common.{◌≡◌, ℕ, ◌+◌, ◌*◌, ◌/◌, ◌%◌, ◌≤◌, List, ◌++◌, length, take, drop, sym, ap, ◌∙◌, arith}
 use Rattle.hash.specs.Meaning.{Meaning, chained, code, blocks, padding, closing, hashed, none}
 use Rattle.hash.specs.Meter.{after}
 use Rattle.hash.proofs.Join.{closes}
 use Rattle.hash.proofs.Turns.{after_after}
 use Rattle.mac.proofs.Codes.{code_first}
-use Rattle.hmac.specs.Hmac.{xored, filled_key, inner_key, outer_key, after_block, hmac_code}
+use Rattle.hmac.specs.Hmac.{inner_key, outer_key, after_block, hmac_code}
 use Rattle.hmac.proofs.Keys.{padded_key}
 
 module _ (m : Meaning) (few : m.words ≤ 8) (key bytes : List ℕ) (size : length key ≤ 64) where

@@ -1,5 +1,5 @@
 -- HMAC, algorithm 2 of ISO/IEC 9797-2:2011, over any hash. Assumes nothing.
-use Rattle.std.specs.Prelude.{◌≡◌, ℕ, ◌+◌, ◌-◌, ◌*◌, ◌/◌, ◌≤◌, Bool, true, false, List, [], ◌∷◌, ◌++◌, map, length, take, replicate, bit_xor, refl}
+use Rattle.std.specs.Prelude.{◌≡◌, ℕ, ◌+◌, ◌-◌, ◌*◌, ◌/◌, true, false, List, ◌++◌, map, length, take, replicate, bit_xor, refl}
 use Rattle.std.proofs.Common.{arith}
 use Rattle.hash.specs.Meaning.{Meaning, chained, blocks, hashed, none}
 use Rattle.mac.specs.declared.Span.{Span}

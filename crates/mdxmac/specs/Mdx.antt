@@ -1,5 +1,5 @@
 -- MDx-MAC, algorithm 1 of ISO/IEC 9797-2:2011, over any hash. Assumes nothing.
-use Rattle.std.specs.Prelude.{◌≡◌, ℕ, ◌+◌, ◌-◌, ◌*◌, ◌/◌, ◌%◌, ◌≤◌, true, List, ◌++◌, length, take, replicate, refl}
+use Rattle.std.specs.Prelude.{◌≡◌, ℕ, ◌+◌, ◌-◌, ◌*◌, ◌/◌, ◌%◌, true, List, ◌++◌, length, take, replicate, refl}
 use Rattle.std.proofs.Common.{arith}
 use Rattle.hash.specs.Meaning.{Meaning, chained, blocks, padded, code, none}
 use Rattle.mac.specs.declared.Span.{Span}

@@ -1,7 +1,7 @@
 -- The chains that a key makes, and the end of a run. Assumes nothing.
-use Rattle.std.specs.Prelude.{◌≡◌, ℕ, ◌+◌, ◌-◌, ◌*◌, ◌/◌, ◌%◌, ◌^◌, ◌<◌, ◌≤◌, List, [], ◌∷◌, ◌++◌, length, take, drop, refl}
-use Rattle.std.proofs.Common.{ap, ◌∙◌, sym, append_assoc, mod-lt, arith, length-append}
-use Rattle.std.proofs.lemmas.List.{take_at, take-append-le}
+use Rattle.std.specs.Prelude.{◌≡◌, ℕ, ◌+◌, ◌*◌, ◌/◌, ◌%◌, ◌<◌, ◌≤◌, List, ◌++◌, length, take, drop}
+use Rattle.std.proofs.Common.{ap, ◌∙◌, sym, append_assoc, arith, length-append}
+use Rattle.std.proofs.lemmas.List.{take-append-le}
 use Rattle.hash.specs.Meaning.{Meaning, step, chained, code, blocks, padding, padded, closing, none}
 use Rattle.hash.specs.Meter.{after}
 use Rattle.hash.proofs.Message.{chained_append}
@@ -9,8 +9,7 @@ use Rattle.hash.proofs.Close.{one_round, Keeps, chained_sized}
 use Rattle.hash.proofs.Join.{ends}
 use Rattle.hash.proofs.Turns.{after_one, after_more, after_after}
 use Rattle.mac.proofs.Codes.{code_first}
-use Rattle.mdxmac.specs.Bytes.{both}
-use Rattle.mdxmac.specs.Mdx.{K', three, U, hbar, mixed, K0, K1, K2, last, mdx_code}
+use Rattle.mdxmac.specs.Mdx.{K', three, U, mixed, K0, K1, K2, last, mdx_code}
 use Rattle.mdxmac.specs.Put.{length-K', length_both}
 
 -- the strings have 16 bytes each

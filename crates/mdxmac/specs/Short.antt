@@ -1,5 +1,5 @@
 -- Algorithm 3 of ISO/IEC 9797-2:2011, for short strings, over any hash. Assumes nothing.
-use Rattle.std.specs.Prelude.{◌≡◌, ℕ, ◌+◌, ◌-◌, ◌*◌, ◌≤◌, true, List, [], ◌∷◌, ◌++◌, length, take, replicate, refl}
+use Rattle.std.specs.Prelude.{ℕ, ◌-◌, ◌*◌, true, List, ◌∷◌, ◌++◌, length, take, replicate, refl}
 use Rattle.std.proofs.Common.{arith}
 use Rattle.hash.specs.Meaning.{Meaning, chained, code, high_first}
 use Rattle.mac.specs.declared.Row.{Row}

@@ -1,7 +1,7 @@
 -- The fields of a line, one after the other. Assumes nothing.
 use Rattle.std.proofs.Common.{◌≡◌, ℕ, suc, ◌+◌, ◌-◌, ◌<◌, ◌≤◌, Bool, true, false, List, [], ◌∷◌, map, length, get_or, take, drop, Some, None, vec_items, Option, Vec, sym, refl, ap, ◌∙◌, arith, Bor}
 use Rattle.std.specs.declared.alloc.Global.{Global}
-use Rattle.std.proofs.lemmas.List.{drop_more, drop_all, get_or-map, length-map, drop-map, take_rest}
+use Rattle.std.proofs.lemmas.List.{drop_more, drop_all, get_or-map, length-map, take_rest}
 use Rattle.std.proofs.lemmas.Bool.{lt-leb, le-leb, cond-true, cond-false}
 use Rattle.text.specs.Pieces.{pieces}
 use Rattle.scripts.specs.declared.command.Draft.{Draft}

@@ -1,5 +1,5 @@
 -- The run of a script's calls. Assumes nothing.
-use Rattle.std.proofs.Common.{◌≡◌, ℕ, ◌+◌, ◌-◌, ◌<◌, ◌≤◌, Bool, true, false, cond, List, [], ◌∷◌, map, length, get_or, take, drop, Some, None, vec_items, Option, sym, refl, ap, ◌∙◌, subst}
+use Rattle.std.proofs.Common.{◌≡◌, ℕ, ◌+◌, ◌-◌, ◌<◌, ◌≤◌, true, false, cond, List, ◌∷◌, map, length, get_or, take, drop, Some, None, vec_items, Option, sym, refl, ap, ◌∙◌, subst}
 use Rattle.std.specs.Option.{option_map}
 use Rattle.std.proofs.lemmas.List.{drop_more, drop_all, drop-map, take_rest}
 use Rattle.tags.specs.Kinds.{meaning_of, face_of}
@@ -16,7 +16,7 @@ use Rattle.scripts.specs.declared.verb.Verb.TheVariants.{Node, Calling, Meter, S
 use Rattle.scripts.specs.Calls.{spelled, calls_asked}
 use Rattle.scripts.specs.Form.{Said}
 use Rattle.scripts.specs.Making.{making_of}
-use Rattle.scripts.specs.Play.{is_node, Played, PlayedBy, PlayedAs, PlayedIn}
+use Rattle.scripts.specs.Play.{is_node, PlayedBy, PlayedAs, PlayedIn}
 use Rattle.scripts.specs.Told.{told}
 
 module _ (m : Making) (answers : List Answer) (reports : List Report) where

@@ -3,7 +3,6 @@ use Rattle.std.specs.Prelude.{ℕ, Bool, true, false, cond, List, [], ◌∷◌,
 use Rattle.node.specs.declared.desk.Fields.{Fields}
 use Rattle.node.specs.declared.replay.Call.{Call}
 use Rattle.node.specs.declared.replay.Call.TheVariants.{Install, Clear, Open, Feed, Finish, Judge, Drop, Seal, Take, Carry, Decline}
-use Rattle.scripts.specs.declared.verb.Deed.{Deed}
 use Rattle.scripts.specs.declared.verb.Deed.TheVariants.{Install as to-install, Clear as to_clear, Open as to-open, Feed as to-feed, Finish as to-finish, Judge as to-judge, Drop as to_drop, Seal as to-seal, Take as to_take, Carry as to-carry, Decline as to-decline}
 use Rattle.scripts.specs.declared.verb.Verb.{Verb}
 use Rattle.scripts.specs.declared.verb.Verb.TheVariants.{Node, Calling, Meter, State}

@@ -1,5 +1,5 @@
 -- What is replied to each line of a script. Assumes nothing.
-use Rattle.std.specs.Prelude.{ℕ, ◌+◌, Bool, cond, List, [], ◌∷◌, ◌++◌, take, Some, None, codes, decimal, Option, slice_index, slice_index_or}
+use Rattle.std.specs.Prelude.{ℕ, ◌+◌, cond, List, [], ◌∷◌, ◌++◌, take, Some, None, codes, decimal, Option, slice_index, slice_index_or}
 use Rattle.refusals.specs.Numbers.{number}
 use Rattle.refusals.specs.declared.Refusal.{Refusal}
 use Rattle.node.specs.declared.replay.Answer.{Answer}

@@ -1,7 +1,7 @@
 -- Questions that were all answered yes, and the rounds of a key and a message. Assumes nothing.
-use Rattle.std.proofs.Common.{◌≡◌, ℕ, ◌+◌, ◌-◌, ◌^◌, ◌<◌, ◌≤◌, Bool, true, false, not, ◌&&◌, eqb, leb, List, [], ◌∷◌, Some, None, Option, sym, refl, ap, ◌∙◌, arith, leb-true}
+use Rattle.std.proofs.Common.{◌≡◌, ℕ, ◌+◌, ◌-◌, ◌^◌, ◌<◌, ◌≤◌, Bool, true, false, not, ◌&&◌, eqb, leb, [], ◌∷◌, Some, None, Option, refl, ap, ◌∙◌, arith, leb-true}
 use Rattle.hash.specs.Meter.{after, moved}
-use Rattle.hash.proofs.Turns.{after_after, reads}
+use Rattle.hash.proofs.Turns.{after_after}
 use Rattle.refusals.specs.declared.Refusal.{Refusal}
 use Rattle.refusals.specs.declared.Refusal.TheVariants.{NoAddedWords, KeyLength, TagLength, MessageLength, Room}
 use Rattle.mac.specs.Face.{Face, within}

@@ -1,10 +1,10 @@
-use Rattle.std.proofs.Common.{Bool, cond, leb, Ok, sym, ap, subst, rules}
+use Rattle.std.proofs.Common.{cond, leb, Ok, sym, subst, rules}
 use Rattle.node.specs.declared.desk.Fields.{Fields}
 use Rattle.node.specs.Calls.{guarded, carry, decline}
 use Rattle.node.specs.Orders.{ended}
 use Rattle.node.specs.Stands.{Obeys, Told}
 use Rattle.caller.specs.Spending.{spent}
-use Rattle.caller.proofs.Ends.{refused_told, not_refused, ended_told}
+use Rattle.caller.proofs.Ends.{not_refused, ended_told}
 use Rattle.caller.proofs.spend.Goals as goal
 
 pub returns-in-Ok-end : goal.returns-in-Ok-end

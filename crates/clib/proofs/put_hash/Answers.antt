@@ -1,4 +1,4 @@
-use Rattle.std.proofs.Common.{◌≡◌, ℕ, ◌-◌, ◌*◌, ◌≤◌, length, arith, rules}
+use Rattle.std.proofs.Common.{◌≡◌, ◌-◌, ◌*◌, ◌≤◌, length, arith, rules}
 use Rattle.clib.proofs.Hashing.{hashed_sized, put}
 use Rattle.clib.proofs.put_hash.Goals as goal
 

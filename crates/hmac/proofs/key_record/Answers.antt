@@ -1,4 +1,4 @@
-use Rattle.std.proofs.Common.{◌≡◌, ◌≤◌, length, sym, refl, ap, ◌∙◌, arith, rules}
+use Rattle.std.proofs.Common.{length, sym, ap, ◌∙◌}
 use Rattle.hash.proofs.Turns.{after_one, after_more}
 use Rattle.mac.proofs.Spans.{at_most}
 use Rattle.mac.specs.declared.KeyRecord.{KeyRecord}

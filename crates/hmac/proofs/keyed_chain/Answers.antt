@@ -1,4 +1,4 @@
-use Rattle.std.proofs.Common.{◌≡◌, ℕ, List, length, sym, ap, ◌∙◌}
+use Rattle.std.proofs.Common.{◌≡◌, ℕ, List, sym, ap, ◌∙◌}
 use Rattle.hash.specs.Meaning.{step, none}
 use Rattle.hash.proofs.Close.{one_round}
 use Rattle.hmac.specs.Hmac.{xored, filled_key}

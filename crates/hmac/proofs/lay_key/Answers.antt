@@ -1,4 +1,4 @@
-use Rattle.std.proofs.Common.{◌≡◌, ◌+◌, ◌-◌, ◌<◌, length, arith, length-append, length-drop, length-take, rules}
+use Rattle.std.proofs.Common.{◌≡◌, length, rules}
 use Rattle.hmac.proofs.Keys.{laid, rest_sized}
 use Rattle.hmac.proofs.lay_key.Goals as goal
 

@@ -1,4 +1,4 @@
-use Rattle.std.proofs.Common.{◌≡◌, ◌<◌, ◌≤◌, length, arith, rules}
+use Rattle.std.proofs.Common.{◌<◌, ◌≤◌, length, rules}
 use Rattle.hmac.proofs.Keys.{xored_more, xored_all}
 use Rattle.hmac.proofs.xor_all.Goals as goal
 

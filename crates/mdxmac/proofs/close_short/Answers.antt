@@ -1,4 +1,4 @@
-use Rattle.std.proofs.Common.{◌≡◌, ℕ, ◌+◌, ◌-◌, ◌*◌, ◌/◌, ◌%◌, ◌≤◌, length, take, drop, sym, refl, ap, ◌∙◌, arith, rules}
+use Rattle.std.proofs.Common.{◌≡◌, ℕ, ◌*◌, ◌/◌, ◌%◌, length, take, drop, sym, ap, ◌∙◌, arith, rules}
 use Rattle.hash.proofs.Turns.{after_one}
 use Rattle.mac.proofs.Codes.{tag_first}
 use Rattle.mdxmac.specs.Short.{short_row, short_code}

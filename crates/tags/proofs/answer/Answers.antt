@@ -1,4 +1,4 @@
-use Rattle.std.proofs.Common.{◌≡◌, ◌+◌, length, sym, refl, ap, ◌∙◌, rules}
+use Rattle.std.proofs.Common.{◌+◌, length, refl, ap}
 use Rattle.tags.specs.Asked.{asked, unless_refused}
 use Rattle.tags.proofs.answer.Goals as goal
 

@@ -1,4 +1,4 @@
-use Rattle.std.proofs.Common.{◌≡◌, ℕ, ◌+◌, ◌-◌, ◌<◌, ◌≤◌, List, [], ◌∷◌, length, Ok, sym, refl, ap, ◌∙◌, arith}
+use Rattle.std.proofs.Common.{◌≡◌, ℕ, ◌+◌, ◌-◌, ◌≤◌, List, [], length, Ok, sym, ap, ◌∙◌, arith}
 use Rattle.hash.specs.Meter.{after}
 use Rattle.hash.proofs.Turns.{reads}
 use Rattle.tags.specs.Asked.{asked, unless_refused}

@@ -1,4 +1,4 @@
-use Rattle.std.proofs.Common.{◌≡◌, sym, refl, ap, ◌∙◌, rules}
+use Rattle.std.proofs.Common.{rules}
 use Rattle.tags.specs.Tag.{answered_by, tag_by}
 use Rattle.tags.proofs.make_by.Goals as goal
 

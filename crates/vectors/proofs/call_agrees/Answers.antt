@@ -1,4 +1,4 @@
-use Rattle.std.proofs.Common.{◌≡◌, ℕ, List, vec_items, sym, ap, ◌∙◌}
+use Rattle.std.proofs.Common.{ℕ, List, vec_items, sym, ap, ◌∙◌}
 use Rattle.tags.specs.Tag.{tag_of}
 use Rattle.vectors.proofs.Agreed.{agreed}
 use Rattle.vectors.proofs.call_agrees.Goals as goal

@@ -1,4 +1,4 @@
-use Rattle.std.proofs.Common.{◌≡◌, ◌∙◌}
+use Rattle.std.proofs.Common.{◌∙◌}
 use Rattle.hash.specs.Meaning.{code}
 use Rattle.mdxmac.specs.Mixing.{code_front}
 use Rattle.mdxmac.proofs.keys.code_bytes.Goals as goal

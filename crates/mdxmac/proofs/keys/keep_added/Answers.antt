@@ -1,4 +1,4 @@
-use Rattle.std.proofs.Common.{◌≡◌, ℕ, ◌+◌, ◌-◌, ◌≤◌, ◌++◌, length, take, replicate, ap, ◌∙◌, arith, length-drop, length-take, rules}
+use Rattle.std.proofs.Common.{◌≡◌, ℕ, ◌-◌, ◌≤◌, ◌++◌, length, take, replicate, ap, ◌∙◌, arith, length-drop, length-take, rules}
 use Rattle.hash.proofs.Close.{ended}
 use Rattle.mdxmac.proofs.keys.keep_added.Goals as goal
 

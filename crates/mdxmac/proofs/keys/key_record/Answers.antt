@@ -1,4 +1,4 @@
-use Rattle.std.proofs.Common.{◌≡◌, ℕ, ◌-◌, ◌<◌, List, ◌++◌, length, take, replicate, sym, refl, ap, ◌∙◌, arith}
+use Rattle.std.proofs.Common.{ℕ, ◌-◌, List, ◌++◌, length, take, replicate, ap, ◌∙◌, arith}
 use Rattle.hash.specs.Meaning.{code}
 use Rattle.mac.proofs.Spans.{at_least}
 use Rattle.mdxmac.specs.Mdx.{keys}

@@ -1,4 +1,4 @@
-use Rattle.std.proofs.Common.{◌≡◌, ◌+◌, ◌%◌, ◌<◌, length, sym, refl, ap, ◌∙◌, arith, rules}
+use Rattle.std.proofs.Common.{◌≡◌, length, arith, rules}
 use Rattle.mdxmac.specs.Mdx.{K', three}
 use Rattle.mdxmac.specs.Put.{two_put, length-K'}
 use Rattle.mdxmac.specs.Mixing.{mixed_is, length_three, two_turns}

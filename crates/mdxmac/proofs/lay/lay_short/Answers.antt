@@ -1,4 +1,4 @@
-use Rattle.std.proofs.Common.{◌≡◌, ℕ, ◌+◌, ◌-◌, ◌≤◌, length, take, ap, ◌∙◌, arith, length-take, rules}
+use Rattle.std.proofs.Common.{◌≡◌, length, take, ap, ◌∙◌, arith, length-take, rules}
 use Rattle.mdxmac.specs.Bytes.{put}
 use Rattle.mdxmac.proofs.Brief.{short_laid}
 use Rattle.mdxmac.proofs.lay.lay_short.Goals as goal

@@ -1,4 +1,4 @@
-use Rattle.std.proofs.Common.{◌≡◌, ◌+◌, ◌<◌, ◌≤◌, length, take, drop, sym, arith, rules}
+use Rattle.std.proofs.Common.{◌≡◌, ◌<◌, length, take, drop, arith}
 use Rattle.mdxmac.specs.Bytes.{both}
 use Rattle.mdxmac.specs.Put.{put_none, put_step, put_end, mix_byte, mix_sized}
 use Rattle.mdxmac.proofs.lay.mix_bytes.Goals as goal

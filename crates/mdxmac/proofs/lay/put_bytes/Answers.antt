@@ -1,4 +1,4 @@
-use Rattle.std.proofs.Common.{◌≡◌, length, arith, rules}
+use Rattle.std.proofs.Common.{arith}
 use Rattle.mdxmac.specs.Put.{copied}
 use Rattle.mdxmac.proofs.lay.put_bytes.Goals as goal
 

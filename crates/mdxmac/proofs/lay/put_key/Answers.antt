@@ -1,4 +1,4 @@
-use Rattle.std.proofs.Common.{◌≡◌, ◌+◌, ◌<◌, ◌≤◌, length, sym, arith, rules}
+use Rattle.std.proofs.Common.{◌≡◌, ◌<◌, length, sym, arith}
 use Rattle.mdxmac.specs.Mdx.{K'}
 use Rattle.mdxmac.specs.Put.{put_none, put_step, put_end, length-K', slice_index-K'}
 use Rattle.mdxmac.proofs.lay.put_key.Goals as goal

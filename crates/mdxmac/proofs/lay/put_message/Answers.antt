@@ -1,4 +1,4 @@
-use Rattle.std.proofs.Common.{◌≡◌, ℕ, ◌+◌, ◌-◌, ◌≤◌, length, take, ap, ◌∙◌, arith, length-append, length-drop, length-take, rules}
+use Rattle.std.proofs.Common.{◌≡◌, ℕ, length, take, ap, ◌∙◌, arith, length-append, length-drop, length-take, rules}
 use native.Mathlib.Nat.{sub-zero}
 use Rattle.mdxmac.proofs.Brief.{message_put}
 use Rattle.mdxmac.proofs.lay.put_message.Goals as goal

@@ -1,4 +1,4 @@
-use Rattle.std.proofs.Common.{◌≡◌, ◌+◌, ◌%◌, ◌<◌, length, sym, refl, ap, ◌∙◌, arith, rules}
+use Rattle.std.proofs.Common.{◌≡◌, ◌+◌, ◌%◌, length, ap, ◌∙◌, arith, rules}
 use Rattle.mdxmac.specs.Bytes.{put}
 use Rattle.mdxmac.specs.Put.{three_put}
 use Rattle.mdxmac.proofs.lay.put_strings.Goals as goal

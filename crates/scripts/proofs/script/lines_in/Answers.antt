@@ -1,4 +1,4 @@
-use Rattle.std.proofs.Common.{vec_items, sym, ap, ◌∙◌, arith}
+use Rattle.std.proofs.Common.{vec_items, ap, ◌∙◌, arith}
 use Rattle.scripts.proofs.Fields.{texts_of}
 use Rattle.scripts.proofs.Lines.{lines_cut, lines_all, lines_none}
 use Rattle.scripts.proofs.script.lines_in.Goals as goal

@@ -1,7 +1,7 @@
 -- Frames at the front of a place, and what a frame asks. Assumes nothing.
 use Rattle.std.proofs.Common.{◌≡◌, ℕ, ◌+◌, ◌/◌, ◌%◌, ◌<◌, false, eqb, List, ◌++◌, length, get_or, take, drop, Option, sym, refl, ap, ◌∙◌, append_assoc, arith, length-append}
 use Rattle.std.proofs.lemmas.List.{take-append-drop}
-use Rattle.std.specs.List.{AllByRecursion as All}
+use Rattle.std.specs.List.{AllByRecursion}
 use Rattle.refusals.specs.Numbers.{number}
 use Rattle.mac.specs.Face.{Face}
 use Rattle.frame.specs.declared.Header.{Header}
@@ -12,7 +12,7 @@ use Rattle.node.specs.declared.desk.Fields.{Fields}
 use Rattle.node.specs.Asking.{frame_q}
 
 -- none of a frame's questions is whether its tag is right
-pub frame_plain : (f : Face) (hand : Option Fields) (frame : List ℕ) (t own : ℕ) (key : Option (List ℕ)) (last : ℕ) → All (λ q. eqb (number q.refusal) 20 ≡ false) (frame_q f hand frame t own key last)
+pub frame_plain : (f : Face) (hand : Option Fields) (frame : List ℕ) (t own : ℕ) (key : Option (List ℕ)) (last : ℕ) → AllByRecursion (λ q. eqb (number q.refusal) 20 ≡ false) (frame_q f hand frame t own key last)
 unfolding questions
 frame_plain f hand frame t own key last = (refl, (refl, (refl, (refl, (refl, (refl, (refl, (refl, (refl, tt)))))))))
 

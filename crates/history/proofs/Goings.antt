@@ -4,7 +4,7 @@ use borrow.Author.Tests.{both_ways}
 use Rattle.std.proofs.lemmas.Bool.{eq-eqb, ne_eqb}
 use Rattle.std.proofs.lemmas.List.{take_at}
 use Rattle.std.proofs.lemmas.Slice.Eq.{bytes_eq-Decides}
-use Rattle.std.specs.List.{AllByRecursion as All}
+use Rattle.std.specs.List.{AllByRecursion}
 use Rattle.std.specs.Str.{bytes_eq}
 use Rattle.hash.specs.Meter.{after}
 use Rattle.hash.proofs.Turns.{after_after}
@@ -39,7 +39,7 @@ use Rattle.history.proofs.Parts.{passes, joined_none, joined_some, both_none, fi
 
 -- no question of these is whether a tag is right
 abbrev Plain : List Question → Type 0
-Plain qs = All (λ q. eqb (number q.refusal) 20 ≡ false) qs
+Plain qs = AllByRecursion (λ q. eqb (number q.refusal) 20 ≡ false) qs
 
 -- something is there
 held_some : {X : Type 0} (x : Option X) → is_some x ≡ true → (y : X) × (x ≡ Some y)

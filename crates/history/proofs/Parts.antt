@@ -3,7 +3,7 @@ use Rattle.std.proofs.Common.{◌≡◌, ℕ, zero, suc, ◌+◌, ◌<◌, ◌�
 use Rattle.std.proofs.lemmas.List.{get_or-set_same, get_or-set_other, length-set}
 use Rattle.std.proofs.lemmas.Bool.{cases_eq}
 use Rattle.std.proofs.ByRecursion.{All-weaker}
-use Rattle.std.specs.List.{AllByRecursion as All}
+use Rattle.std.specs.List.{AllByRecursion}
 use Rattle.refusals.specs.Questions.{Question, first_refusal}
 use Rattle.refusals.specs.Numbers.{number}
 use Rattle.refusals.specs.declared.Refusal.{Refusal}
@@ -43,7 +43,7 @@ both_none (q ∷ xs) ys e =
     let r = both_none xs ys p.1 in
     (ap (λ b. cond b (first_refusal xs) (Some q.refusal)) p.0 ∙ r.0, r.1)
 
-pub first_of : (P : Refusal → Type 0) (qs : List Question) → All (λ q. P q.refusal) qs → (e : Refusal) → first_refusal qs ≡ Some e → P e
+pub first_of : (P : Refusal → Type 0) (qs : List Question) → AllByRecursion (λ q. P q.refusal) qs → (e : Refusal) → first_refusal qs ≡ Some e → P e
 first_of P [] all e q = let z : ◌≡◌ {A = ℕ} 0 1 = cc in absurd (omega (arith, z))
 first_of P (x ∷ qs) all e q = by x.passes (λ w. first_of P qs all.1 e w) q
   where
@@ -92,7 +92,7 @@ pub numbers_kept : (of of' : ℕ → List ℕ) (last : List ℕ) → ((s : ℕ) 
 numbers_kept of of' last same k =
     record {
       many = k.many;
-      below = λ s. subst (All (λ x. x ≤ get_or last s 0)) (sym (same s)) (k.below s);
+      below = λ s. subst (AllByRecursion (λ x. x ≤ get_or last s 0)) (sym (same s)) (k.below s);
       rising = λ s. subst Rising (sym (same s)) (k.rising s);
       newest = λ s. ap newest (same s) ∙ k.newest s;
     }
@@ -105,12 +105,12 @@ numbers_more of of' last i n i8 up here there k =
       below = λ s.
           ⊎_elim
           (λ (x : s ≡ i).
-          subst (λ y. All (λ z. z ≤ get_or (set last i n) y 0) (of' y)) (sym x)
-          (subst (λ y. All (λ z. z ≤ y) (of' i)) (sym (get_or-set_same last i n 0 p))
-          (subst (All (λ z. z ≤ n)) (sym here) (le n, All-weaker _ _ (λ z w. omega arith) (of i) (k.below i)))))
+          subst (λ y. AllByRecursion (λ z. z ≤ get_or (set last i n) y 0) (of' y)) (sym x)
+          (subst (λ y. AllByRecursion (λ z. z ≤ y) (of' i)) (sym (get_or-set_same last i n 0 p))
+          (subst (AllByRecursion (λ z. z ≤ n)) (sym here) (le n, All-weaker _ _ (λ z w. omega arith) (of i) (k.below i)))))
           (λ (x : s ≡ i → ⊥).
-          subst (λ y. All (λ z. z ≤ y) (of' s)) (sym (get_or-set_other last i s n 0 x))
-          (subst (All (λ z. z ≤ get_or last s 0)) (sym (there s x)) (k.below s)))
+          subst (λ y. AllByRecursion (λ z. z ≤ y) (of' s)) (sym (get_or-set_other last i s n 0 x))
+          (subst (AllByRecursion (λ z. z ≤ get_or last s 0)) (sym (there s x)) (k.below s)))
           (cases_eq s i);
       rising = λ s.
           ⊎_elim

@@ -1,6 +1,6 @@
 -- The means of the proof: a node has come to stand for what its history says. Assumes nothing.
 use Rattle.std.specs.Prelude.{◌≡◌, ℕ, ◌≤◌, List, ◌∷◌, length, Some, None, Option, slice_index, slice_index_or}
-use Rattle.std.specs.List.{AllByRecursion as All}
+use Rattle.std.specs.List.{AllByRecursion}
 use Rattle.hash.specs.Meter.{after}
 use Rattle.refusals.specs.Questions.{first_refusal}
 use Rattle.mac.specs.Face.{Face}
@@ -26,7 +26,7 @@ pub record Lanes (h : List Event) (lanes : List (Option Opened)) : Type 0 where
 -- the numbers of each slot rise, and the last of them stands in its place
 pub record Numbers (of : ℕ → List ℕ) (last : List ℕ) : Type 0 where
   pub many : length last ≡ 8
-  pub below : (s : ℕ) → All (λ k. k ≤ slice_index last s) (of s)
+  pub below : (s : ℕ) → AllByRecursion (λ k. k ≤ slice_index last s) (of s)
   pub rising : (s : ℕ) → Rising (of s)
   pub newest : (s : ℕ) → newest (of s) ≡ slice_index last s
 

@@ -1,7 +1,7 @@
 -- What any list of calls on a new node owes, by its history alone. Assumes nothing.
 use Rattle.std.specs.Prelude.{◌≡◌, ℕ, ◌+◌, ◌<◌, ◌≤◌, min, Bool, true, cond, List, [], ◌∷◌, ◌++◌, length, take, Some, None, Decides, Option, slice_index_or}
 use Rattle.std.specs.Option.{unwrap_or}
-use Rattle.std.specs.List.{AllByRecursion as All}
+use Rattle.std.specs.List.{AllByRecursion}
 use Rattle.std.specs.Str.{bytes_eq}
 use Rattle.hash.specs.Meter.{moved}
 use Rattle.refusals.specs.Questions.{Question, asks, first_refusal}
@@ -31,7 +31,7 @@ report_at reports k = slice_index_or reports k (record { reading = 0; level = 0;
 -- each number is above all before it
 abbrev pub Rising : List ℕ → Type 0
 Rising [] = Unit {0}
-Rising (n ∷ earlier) = All (λ k. k < n) earlier × Rising earlier
+Rising (n ∷ earlier) = AllByRecursion (λ k. k < n) earlier × Rising earlier
 
 -- a node of an algorithm, over a hash with so many added words, with tags of t bytes and an address of its own
 module _ (f : Face) (added t own : ℕ) where

@@ -1,5 +1,6 @@
 // An order that was taken, as a token beside the node: plain numbers, not to be copied, and not to be let go. Its `drop`
-// asks what nobody can show, so whoever has one carries or declines it, once.
+// asks that its number be 0, which is no order's that a node gave: numbers taken rise, from 1 on. So whoever has one carries
+// or declines it, once.
 ghost use Rattle.std.specs.Prelude.{◌≡◌};
 
 use crate::desk::Fields;
@@ -10,7 +11,7 @@ pub struct Order {
 
 impl Drop for Order {
     fn drop(self)
-        requires { ⊥ }
+        requires { self.fields.number ≡ 0 }
     {
         let Order { fields: _ } = self;
     }

@@ -3,9 +3,9 @@
 
     tools/cases.py
 
-It reads tools/published.txt, the rows of published tables: `hash H MESSAGE CODE` and `tag A H T KEY MESSAGE TAG`, and, for
-`tagline` alone, tools/rfc.txt, test cases of RFCs. A published value is taken from there as it stands, and reference.py has
-to agree with it. Where no table has a case, the expected answer is reference.py's.
+It reads tools/published.txt, the rows of published tables: `hash H MESSAGE CODE` and `tag A H T KEY MESSAGE TAG`. A published
+value is taken from there as it stands, and reference.py has to agree with it. Where no table has a case, the expected answer is
+reference.py's.
 """
 from pathlib import Path
 
@@ -187,7 +187,6 @@ def known(case):
 def tagline_cases(rows):
     cases = [known(case) for case in KNOWN]
     cases += published_lines(rows)
-    cases += published_lines(published("rfc.txt"))
     cases.append(known(KNOWN_SHORT))
     cases += with_answers(answered()) + with_answers(refused()) + with_answers(malformed())
     # the last line, which has no newline

@@ -9,18 +9,29 @@ from threading import Thread
 ROOT = Path(__file__).resolve().parent.parent
 
 
+def made(crate, file):
+    """Where rt leaves what it makes of a crate."""
+    return ROOT / "crates" / crate / "out" / file
+
+
 def build(names, wanted):
     """Builds the programs, or, where they are not wanted built, sees that they are there."""
-    if wanted:
-        subprocess.run(["rt", "check", *names], cwd=ROOT, check=True)
-    missing = [name for name in names if not (ROOT / "target/bin" / name).exists()]
-    if missing:
-        sys.exit(f"target/bin has no {' and no '.join(missing)}: run `rt check {' '.join(names)}`")
+    for name in names:
+        if wanted:
+            # `rt run` proves and builds a program and runs it, here on no input
+            subprocess.run(["rt", "run"], cwd=ROOT / "crates" / name, stdin=subprocess.DEVNULL, stdout=sys.stderr, check=True)
+        if not made(name, name).exists():
+            sys.exit(f"there is no {made(name, name)}: run `rt run` in crates/{name}")
+
+
+def build_library(name):
+    """Proves and builds a static library."""
+    subprocess.run(["rt", "lib"], cwd=ROOT / "crates" / name, stdout=sys.stderr, check=True)
 
 
 def command_of(name, other):
-    """A program's command: the one in target/bin, or another that was named in its place."""
-    return other.split() if other else [str(ROOT / "target/bin" / name)]
+    """A program's command: the one that rt has built, or another that was named in its place."""
+    return other.split() if other else [str(made(name, name))]
 
 
 def write_all(pipe, pieces):

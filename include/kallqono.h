@@ -1,6 +1,6 @@
 /* Kallqono: hashes and message authentication codes, proved. This header is the manual of the library for C and Rust.
  *
- * Build it with `rt staticlib clib` and link target/staticlib/libclib.a; it needs memcpy and memset and nothing else.
+ * Build it with `rt lib` in crates/clib and link crates/clib/out/libclib.a; it needs memcpy, memmove and memset and nothing else.
  *
  * The library keeps nothing between calls, allocates nothing and uses no global data, so any number of threads may call it.
  * All memory is the caller's: a function works on the buffers that it is lent, for as long as the call takes. A pointer is never

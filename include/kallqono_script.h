@@ -1,7 +1,8 @@
 /* A lamp node from C, on a host: a script of calls as lines of text, and the replies to them. For what runs without a heap see kallqono.h.
  *
- * Build it with `rt staticlib cscripts` and link target/staticlib/libcscripts.a and the kit's lib/librattle_c.a, through which it calls malloc
- * and free. The node lives for the length of one call; docs/RULES.md, under `nodeline`, has the lines of a script and the replies. */
+ * Build it with `rt lib` in crates/cscripts and link crates/cscripts/out/libcscripts.a and the kit's c/liblibc_c.a, through which it calls
+ * malloc, realloc and free; besides it needs memcpy, memmove and memset. The node lives for the length of one call; docs/RULES.md, under
+ * `nodeline`, has the lines of a script and the replies. */
 #ifndef KALLQONO_SCRIPT_H
 #define KALLQONO_SCRIPT_H
 

@@ -5,22 +5,17 @@ readies it and makes that call. The node lies in the function's own frame, since
 PAIRS = [(1, 1, "Ripemd160", "MdxMac"), (1, 3, "Sha1", "MdxMac"), (2, 1, "Ripemd160", "Hmac"), (2, 3, "Sha1", "Hmac"), (2, 4, "Sha256", "Hmac"),
          (3, 1, "Ripemd160", "ShortMac"), (3, 3, "Sha1", "ShortMac")]
 
-USES = """use hmac::Hmac;
-use hmac::HmacAlgorithm;
+USES = """#![tactic(auto)]
+
 use hash::Hash;
+use hmac::Hmac;
 use mac::Algorithm;
-use mdxmac::MdxAlgorithm;
-use mdxmac::MdxMac;
-use mdxmac::ShortAlgorithm;
-use mdxmac::ShortMac;
+use mdxmac::{MdxMac, ShortMac};
 use node::Node;
 use refusals::Refusal;
 use ripemd160::Ripemd160;
-use ripemd160::Ripemd160Hash;
-use sha1::Sha1;
-use sha1::Sha1Hash;
+use sha_1::Sha1;
 use sha256::Sha256;
-use sha256::Sha256Hash;
 
 #[repr(C)]
 pub struct Work {

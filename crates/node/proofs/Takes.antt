@@ -1,5 +1,5 @@
 -- Take. Assumes nothing.
-use Rattle.std.proofs.Common.{◌≡◌, ℕ, ◌+◌, ◌^◌, ◌<◌, Bool, true, false, List, [], length, get_or, is_some, Some, None, Ok, Err, Option, unwrap_or, sym, refl, ap, ◌∙◌, subst, arith}
+use Rattle.std.proofs.Common.{◌≡◌, ℕ, ◌+◌, ◌^◌, ◌<◌, ◌≤◌, Bool, true, false, List, [], length, get_or, is_some, Some, None, Ok, Err, Option, unwrap_or, sym, refl, ap, ◌∙◌, subst, arith}
 use Rattle.std.specs.Str.{bytes_eq}
 use Rattle.hash.specs.Meter.{after}
 use Rattle.refusals.specs.declared.Refusal.{Refusal}
@@ -97,3 +97,14 @@ module _ {H A : Type 0} (next : H → H) (f : Face) (n : Node H A) (m : Model) (
 
 pub taken_slot : (f : Face) (hand : Option Fields) (frame : List ℕ) (t own : ℕ) (slots : List (Option KeyRecord)) (took : List ℕ) (o : Fields) (r : KeyRecord) → AskedFrame f hand frame t own slots took (Ok (o, r)) → o.slot < 8
 taken_slot f hand frame t own slots took o r asked = subst (λ (x : Fields). x.slot < 8) (sym asked.1) (slot_fits frame)
+
+-- some key or none, as a record is there or not
+key_there : (x : Option KeyRecord) → (k : Option (List ℕ)) × (is_some k ≡ is_some x)
+key_there None = (None, refl)
+key_there (Some r) = (Some [], refl)
+
+pub taken_number : (f : Face) (hand : Option Fields) (frame : List ℕ) (t own : ℕ) (slots : List (Option KeyRecord)) (took : List ℕ) (o : Fields) (r : KeyRecord) → AskedFrame f hand frame t own slots took (Ok (o, r)) → 1 ≤ o.number
+taken_number f hand frame t own slots took o r asked =
+    let key = key_there (get_or slots (header_of frame).slot None) in
+    let good = fine f hand frame t own (get_or took (header_of frame).slot 0) key.0 (asked.0 key.0 key.1) in
+    subst (λ (x : Fields). 1 ≤ x.number) (sym asked.1) (omega (arith, good.fresh))

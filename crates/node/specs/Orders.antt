@@ -18,3 +18,12 @@ ended (Err e) = Err e.0
 abbrev pub GivenBack : Result Unit (Refusal × Order) → Fields → Type 0
 GivenBack (Ok u) o = Unit {0}
 GivenBack (Err e) o = e.1.fields ≡ o
+
+-- What it takes to let an order go: the number 0, which no order has that a node gave. The word is opaque, so that nobody else can show it of any.
+pub Lapses : Fields → Type 0
+Lapses o = o.number ≡ 0
+
+-- it is no empty word
+unnumbered : (o : Fields) → o.number ≡ 0 → Lapses o
+unfolding Lapses
+unnumbered o none = none

@@ -1,5 +1,5 @@
 // A command goes from one node to another: sealed here, taken there.
-ghost use Rattle.std.specs.Prelude.{◌≡◌, ℕ, List, length};
+ghost use Rattle.std.specs.Prelude.{◌≡◌, ℕ, ◌≤◌, List, length, IfOk};
 ghost use Rattle.mac.specs.Promises.{wiped};
 ghost use Rattle.node.specs.Model.{Model};
 ghost use Rattle.node.specs.Stands.{Stands};
@@ -23,6 +23,7 @@ fn seal_and_take<H: Hash, A: Algorithm<H>>(
 ) -> Result<Result<Order, Refusal>, Refusal>
     ensures handed { (c l : Model) → Stands H.Hash.next A.Algorithm.face cabinet.old c → Stands H.Hash.next A.Algorithm.face lamp.old l → HandedOver A.Algorithm.face c l slot kind body.now address (length frame.old) result }
     ensures delivered { (c l : Model) → Stands H.Hash.next A.Algorithm.face cabinet.old c → Stands H.Hash.next A.Algorithm.face lamp.old l → Delivered H.Hash.next A.Algorithm.face c l cabinet.old cabinet.new lamp.old lamp.new slot kind body.now address frame.old frame.new result }
+    ensures numbered { IfOk result (λ taken. IfOk taken (λ o. 1 ≤ o.fields.number)) }
     ensures zeroed { work.new ≡ wiped }
 {
     let sealed = cabinet.seal(slot, kind, body, address, frame, work);
@@ -49,6 +50,7 @@ pub fn hand_over<H: Hash, A: Algorithm<H>>(
 ) -> Result<Result<Order, Refusal>, Refusal>
     ensures handed { (c l : Model) → Stands H.Hash.next A.Algorithm.face cabinet.old c → Stands H.Hash.next A.Algorithm.face lamp.old l → HandedOver A.Algorithm.face c l slot kind body.now address (length frame.old) result }
     ensures delivered { (c l : Model) → Stands H.Hash.next A.Algorithm.face cabinet.old c → Stands H.Hash.next A.Algorithm.face lamp.old l → Delivered H.Hash.next A.Algorithm.face c l cabinet.old cabinet.new lamp.old lamp.new slot kind body.now address frame.old frame.new result }
+    ensures numbered { IfOk result (λ taken. IfOk taken (λ o. 1 ≤ o.fields.number)) }
     ensures zeroed { work.new ≡ wiped }
 {
     seal_and_take(cabinet, lamp, slot, kind, body, address, frame, work)

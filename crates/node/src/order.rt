@@ -1,7 +1,8 @@
 // An order that was taken, as a token beside the node: plain numbers, not to be copied, and not to be let go. Its `drop`
-// asks that its number be 0, which is no order's that a node gave: numbers taken rise, from 1 on. So whoever has one carries
-// or declines it, once.
+// asks what no other crate can show, and what is true of no order that a node gave. So whoever has one carries or declines
+// it, once.
 ghost use Rattle.std.specs.Prelude.{◌≡◌};
+ghost use Rattle.node.specs.Orders.{Lapses};
 
 use crate::desk::Fields;
 
@@ -11,7 +12,7 @@ pub struct Order {
 
 impl Drop for Order {
     fn drop(self)
-        requires { self.fields.number ≡ 0 }
+        requires { Lapses self.fields }
     {
         let Order { fields: _ } = self;
     }

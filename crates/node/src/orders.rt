@@ -1,5 +1,5 @@
 // Frames sealed and taken, and orders carried or declined.
-ghost use Rattle.std.specs.Prelude.{◌≡◌, ℕ, ◌<◌, List, length, is_some, None, slice_index, slice_index_or};
+ghost use Rattle.std.specs.Prelude.{◌≡◌, ℕ, ◌<◌, ◌≤◌, List, length, is_some, IfOk, None, slice_index, slice_index_or};
 ghost use Rattle.refusals.specs.Questions.{first_refusal};
 ghost use Rattle.mac.specs.Promises.{wiped};
 ghost use Rattle.node.specs.Model.{Model};
@@ -105,6 +105,7 @@ impl<H: Hash, A: Algorithm<H>> Node<H, A> {
     // Takes a frame: where its tag is right and its number new, gives its order.
     pub fn take(&mut self, frame: &[u8], work: &mut [u8; 64]) -> Result<Order, Refusal>
         ensures obeys { Obeys H.Hash.next A.Algorithm.face self.old self.new (given result) (λ m. guarded m (take_frame A.Algorithm.face m frame.now)) }
+        ensures numbered { IfOk result (λ o. 1 ≤ o.fields.number) }
         ensures zeroed { work.new ≡ wiped }
     {
         let refusal = self.refusal;
@@ -118,6 +119,7 @@ impl<H: Hash, A: Algorithm<H>> Node<H, A> {
     fn take_order(&mut self, frame: &[u8], work: &mut [u8; 64]) -> Result<Order, Refusal>
         requires { self.old.refusal ≡ None }
         ensures obeys { Obeys H.Hash.next A.Algorithm.face self.old self.new (given result) (λ m. take_frame A.Algorithm.face m frame.now) }
+        ensures numbered { IfOk result (λ o. 1 ≤ o.fields.number) }
         ensures zeroed { work.new ≡ wiped }
     {
         let guard = Wipe { block: work };

@@ -5,7 +5,7 @@
 #![tactic(auto)]
 
 use anyhow::anyhow;
-use history::log_calls;
+use history::run_calls;
 use hmac::Hmac;
 use node::{Answer, Call, Fields, Report};
 use sha256::Sha256;
@@ -100,14 +100,19 @@ fn run(
         calls.push(step.1)?;
     }
     println!(rt; "{name}, address {address}")?;
-    let log = log_calls::<Sha256, Hmac>(heap, Sha256::new(), TAG, address, &calls, &mut work)?;
-    for (step, answer) in steps.iter().zip(log.answers.iter()) {
+    let (report, answers) = run_calls::<Sha256, Hmac>(
+        heap,
+        Sha256::new(),
+        TAG,
+        address,
+        &calls,
+        &mut work,
+    )?;
+    for (step, answer) in steps.iter().zip(answers.iter()) {
         tell(rt, step.0, answer)?;
     }
-    if let Some(report) = log.reports.last() {
-        close(rt, *report)?;
-    }
-    Ok(log.answers)
+    close(rt, report)?;
+    Ok(answers)
 }
 
 fn tell(rt: &HostRuntime, what: &str, answer: &Answer) -> io::Result<()> {

@@ -92,10 +92,7 @@ pub fn put_hex(out: &mut Vec<u8>, bytes: &[u8]) -> Result<(), AllocError>
     ensures capacity { vec_capacity out.old ≤ vec_capacity out.new }
     ensures succeeds { vec_len out.old + 2 * length bytes.now ≤ vec_capacity out.old → is_ok result ≡ true }
 {
-    let Some(digits) = bytes.len().checked_mul(2) else {
-        return Err(AllocError);
-    };
-    out.reserve(digits)?;
+    out.reserve(2 * bytes.len())?;
     put_pairs(out, bytes);
     Ok(())
 }

@@ -28,6 +28,7 @@ returns-in-Ok g c =
     record {
       handed = λ m l sm sl. (delivers m l sm sl).taken _ refl;
       delivered = delivers;
+      numbered = search rules;
       zeroed = search rules;
     }
   where
@@ -48,6 +49,7 @@ returns-in-Err g c = record {
         heard = subst (λ x. Heard g.H.Hash.next f l c.args.lamp.now c.args.lamp.now S x (Err c.in-Err.e)) told.answer (refl, refl);
         taken = λ t is ready. absurd (never is);
       };
+  numbered = search rules;
   zeroed = search rules;
 }
   where

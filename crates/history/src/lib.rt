@@ -22,7 +22,7 @@ pub struct Log {
     pub reports: Vec<Report>,
 }
 
-// Performs every call of the list on a new node. Want of memory for the answers is told before anything is done.
+// Performs every call of the list on a new node. Want of memory for the answers is told before any call.
 pub fn log_calls<H: Hash + Drop, A: Algorithm<H> + Drop>(
     heap: Global,
     hash: H,

@@ -7,4 +7,4 @@ pub mod Close
 pub mod Join
 pub mod Sums
 pub mod Window
-pub mod Choose
+pub mod Bitwise

@@ -1,5 +1,5 @@
 use Rattle.std.proofs.Common.{arith}
-use Rattle.hash.proofs.Choose.{chosen}
+use Rattle.hash.proofs.Bitwise.{chosen}
 use Rattle.sha256.proofs.words.ch_of.Goals as goal
 
 pub returns : goal.returns

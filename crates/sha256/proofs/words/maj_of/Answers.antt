@@ -1,4 +1,4 @@
-use Rattle.hash.proofs.Choose.{most}
+use Rattle.hash.proofs.Bitwise.{most}
 use Rattle.sha256.proofs.words.maj_of.Goals as goal
 
 pub returns : goal.returns

@@ -1,7 +1,8 @@
 -- Ch and Maj with fewer operations than their definitions have. Assumes nothing.
 use Rattle.std.proofs.Common.{◌≡◌, ℕ, zero, suc, ◌+◌, ◌-◌, ◌*◌, ◌/◌, ◌%◌, ◌^◌, ◌<◌, sym, refl, ap, ◌∙◌, arith}
 use lib.Arith.{bin_ind}
-use lib.Bits.{bit_and, bit_xor, and_shr, xor_shr, and_mod, xor_mod, and_mask, and_comm, xor_comm, xor_assoc, xor_add_and}
+use lib.Bits.{bit_and, bit_or, bit_xor, and_shr, xor_shr, and_mod, xor_mod, and_mask, and_comm, and_self, and_zero_r, xor_comm, xor_assoc, xor_self, xor_add_and, or_disjoint, xor_disjoint}
+use Rattle.std.proofs.lemmas.Nat.{and_assoc}
 use Rattle.hash.specs.Words.{negated}
 use Rattle.hash.specs.Rounds.{ch, maj}
 
@@ -37,6 +38,28 @@ chosen x y z hx hz =
     let rest : bit_and (2 ^ 32 - 1 - x) z ≡ bit_xor (bit_and x z) z =
     ap (λ (n : ℕ). bit_and n z) turned ∙ and_comm (bit_xor x (2 ^ 32 - 1)) z ∙ and_xor z x (2 ^ 32 - 1) ∙ rw (kept, and_comm z x) in
     rw (and_xor x y z, xor_assoc (bit_and x y) (bit_and x z) z, ← rest)
+
+-- no bit is a word's own and also turned
+apart : (x : ℕ) → x < 2 ^ 32 → bit_and x (negated x) ≡ 0
+unfolding negated
+apart x h =
+    let full : bit_and x (2 ^ 32 - 1) ≡ x % 2 ^ 32 = and_mask x 32 in
+    let sum : bit_xor x (2 ^ 32 - 1) + bit_and x (2 ^ 32 - 1) * 2 ≡ x + (2 ^ 32 - 1) = xor_add_and x (2 ^ 32 - 1) in
+    let turned : 2 ^ 32 - 1 - x ≡ bit_xor x (2 ^ 32 - 1) = omega arith in
+    let own : bit_and x (2 ^ 32 - 1) ≡ x = full ∙ (let m : x % 2 ^ 32 ≡ x = omega arith in m) in
+    ap (bit_and x) turned ∙ and_xor x x (2 ^ 32 - 1) ∙ rw (and_self x, own, xor_self x)
+
+both_apart : (x y z : ℕ) → x < 2 ^ 32 → bit_and (bit_and x y) (bit_and (negated x) z) ≡ 0
+both_apart x y z h =
+    ap (λ (n : ℕ). bit_and n (bit_and (negated x) z)) (and_comm x y) ∙ and_assoc (bit_and (negated x) z) y x
+    ∙ ap (bit_and y) (sym (and_assoc z x (negated x)) ∙ ap (λ (n : ℕ). bit_and n z) (apart x h)) ∙ and_zero_r y
+
+-- the same with an or, since the two parts have no bit in common
+pub either : (x y z : ℕ) → x < 2 ^ 32 → z < 2 ^ 32 → bit_xor (bit_and x (bit_xor y z)) z ≡ bit_or (bit_and x y) (bit_and (negated x) z)
+unfolding ch
+either x y z hx hz =
+    let none = both_apart x y z hx in
+    chosen x y z hx hz ∙ xor_disjoint (bit_and x y) (bit_and (negated x) z) none ∙ sym (or_disjoint (bit_and x y) (bit_and (negated x) z) none)
 
 -- most of three: where y and z differ, x decides
 pub most : (x y z : ℕ) → bit_xor (bit_and y z) (bit_and (bit_xor y z) x) ≡ maj x y z

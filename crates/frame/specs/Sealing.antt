@@ -1,7 +1,7 @@
 -- What a writer lays at the front of a buffer, and that a reader has it back. Assumes nothing.
 use Rattle.std.specs.Prelude.{◌≡◌, ℕ, ◌+◌, Bool, cond, List, [], ◌∷◌, ◌++◌, length, drop, Some, None, nat_le}
-use Rattle.refusals.specs.declared.Refusal.TheVariants.{Body}
-use Rattle.refusals.specs.Questions.{first_refusal}
+use Rattle.refusals.specs.declared.Refusal.TheVariants.{Body, Room}
+use Rattle.refusals.specs.Questions.{Question, asks, first_refusal}
 use Rattle.frame.specs.declared.Header.{Header}
 use Rattle.frame.specs.Layout.{header_of, bytes_of_header, body_of, signed_part, tag_in, Fitting, RoundTrip, HeaderFits}
 use Rattle.frame.specs.Reading.{both, body_questions, questions, record_with, reads}
@@ -14,6 +14,10 @@ header_for slot kind address number body =
 -- a body whose length a header can tell, and room for both
 abbrev pub fits_within : List ℕ → List ℕ → Bool
 fits_within body out = both (nat_le (length body) 255) (nat_le (8 + length body) (length out))
+
+-- the questions on a body and the place for it
+abbrev pub front_questions : List ℕ → List ℕ → List Question
+front_questions body out = asks (nat_le (length body) 255) Body ∷ asks (nat_le (8 + length body) (length out)) Room ∷ []
 
 -- a buffer after header and body were written at its front, if they fit
 abbrev pub front_laid : ℕ → ℕ → ℕ → ℕ → List ℕ → List ℕ → List ℕ

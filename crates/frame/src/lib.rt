@@ -7,14 +7,18 @@
 #![tactic(auto)]
 
 ghost use Rattle.std.specs.Prelude.{◌≡◌, ◌+◌, ◌/◌, ◌%◌, ◌≤◌, length, take, drop, IfOk};
+ghost use Rattle.std.specs.Result.{result_err};
 ghost use Rattle.refusals.specs.Questions.{first_refusal};
+ghost use Rattle.frame.specs.Kinds.{kind_number};
 ghost use Rattle.frame.specs.Layout.{header_of, signed_part, tag_in, Fitting};
 ghost use Rattle.frame.specs.Reading.{body_questions, read_as, reads, tell, header_in, level_in, body_in};
 
 use refusals::Refusal;
 
+mod kind;
 mod writing;
 
+pub use kind::Kind;
 pub use writing::{header_bytes, write_front};
 
 const HEADER_BYTES: usize = 8;
@@ -25,7 +29,7 @@ const MOST_LEVEL: u8 = 100;
 
 const MOST_BODY: usize = 255;
 
-// The fields of a header, in their order.
+// The fields of a header, in their order. The kind is the number that stands there: the questions before 13 are asked of any.
 #[derive(Clone, Copy)]
 pub struct Header {
     pub version: u8,
@@ -90,6 +94,7 @@ fn first_fields(first: u8) -> (u8, u8, u8)
 }
 
 // The header's fields, and the rest of the frame.
+#[tactic(auto, unfolding(crate::specs::Layout::header_of))]
 fn read_header(frame: &[u8]) -> (Header, &[u8])
     requires { 8 ≤ length frame.now }
     ensures fields { result.0 ≡ header_of frame.now }
@@ -109,26 +114,18 @@ fn read_header(frame: &[u8]) -> (Header, &[u8])
     (header, rest)
 }
 
-// The first no of the questions on a kind and a body, which a reader asks of a frame and a sealing call of what it is given.
-pub fn body_refusal(kind: u8, body: &[u8]) -> Option<Refusal>
-    ensures { result ≡ first_refusal (body_questions kind body.now) }
+// The questions on a kind and a body, 13 and 14, which a reader asks of a frame and a sealing call of what it is given. Where none is
+// answered no: the kind.
+pub fn check_body(kind: u8, body: &[u8]) -> Result<Kind, Refusal>
+    ensures refusal { result_err result ≡ first_refusal (body_questions kind body.now) }
+    ensures kind { IfOk result (λ k. kind_number k ≡ kind) }
 {
-    if kind > 1 {
-        return Some(Refusal::Kind);
+    let kind = Kind::try_from(kind)?;
+    match (kind, body) {
+        (Kind::Level, [level]) if *level <= MOST_LEVEL => Ok(kind),
+        (Kind::Sheet, _) if body.len() <= MOST_BODY => Ok(kind),
+        _ => Err(Refusal::Body),
     }
-    if kind == 1 {
-        if body.len() > MOST_BODY {
-            return Some(Refusal::Body);
-        }
-        return None;
-    }
-    if body.len() != 1 {
-        return Some(Refusal::Body);
-    }
-    if body[0] > MOST_LEVEL {
-        return Some(Refusal::Body);
-    }
-    None
 }
 
 // The record of a header and what follows it, where a tag of `t` bytes ends the frame.
@@ -136,21 +133,15 @@ fn judge<'a>(header: Header, rest: &'a [u8], t: usize) -> Result<Record<'a>, Ref
     ensures { tell result ≡ read_as header (8 + length rest.now) (take header.size rest.now) t }
 {
     let size = usize::from(header.size);
-    if rest.len() < size {
-        return Err(Refusal::FrameLength);
-    }
-    if rest.len() - size != t {
+    if rest.len().checked_sub(size) != Some(t) {
         return Err(Refusal::FrameLength);
     }
     if header.version != VERSION {
         return Err(Refusal::Version);
     }
     let (body, _) = rest.split_at(size);
-    if let Some(refusal) = body_refusal(header.kind, body) {
-        return Err(refusal);
-    }
-    match body {
-        [level] if header.kind == 0 => Ok(Record::Level {
+    match (check_body(header.kind, body)?, body) {
+        (Kind::Level, [level]) => Ok(Record::Level {
             header,
             level: *level,
             body,
@@ -159,8 +150,10 @@ fn judge<'a>(header: Header, rest: &'a [u8], t: usize) -> Result<Record<'a>, Ref
     }
 }
 
-// The questions in their order: 16 on the frame's length, 17 on the version, 13 on the kind, 14 on the body.
-fn read_frame(frame: &[u8], t: usize) -> Result<Record<'_>, Refusal>
+// The record of a frame with a tag of `t` bytes, or the first question that is answered no: 16 on the frame's length, 17 on the version, 13
+// on the kind, 14 on the body.
+#[tactic(auto, using(crate::proofs::Read::whole, crate::proofs::Read::short, crate::proofs::Read::fits_still))]
+pub fn read_record(frame: &[u8], t: usize) -> Result<Record<'_>, Refusal>
     ensures read { tell result ≡ reads frame.now t }
     ensures fits { IfOk result (λ x. Fitting (header_in x)) }
 {
@@ -171,15 +164,8 @@ fn read_frame(frame: &[u8], t: usize) -> Result<Record<'_>, Refusal>
     judge(header, rest, t)
 }
 
-// The record of a frame with a tag of `t` bytes, or the first question that is answered no.
-pub fn read_record(frame: &[u8], t: usize) -> Result<Record<'_>, Refusal>
-    ensures read { tell result ≡ reads frame.now t }
-    ensures fits { IfOk result (λ x. Fitting (header_in x)) }
-{
-    read_frame(frame, t)
-}
-
 // How many bytes of a frame its header and body are.
+#[tactic(auto, using(crate::proofs::Cut::take_min, crate::proofs::Cut::drop_min), unfolding(crate::specs::Layout::header_of, crate::specs::Layout::signed_part, crate::specs::Layout::tag_in))]
 fn signed_length(frame: &[u8]) -> usize
     ensures within { result ≤ length frame.now }
     ensures signed { take result frame.now ≡ signed_part frame.now }

@@ -87,9 +87,7 @@ impl<H: Hash, A: Algorithm<H>> Node<H, A> {
         let Some(record) = held else {
             return Err(Refusal::SlotEmpty);
         };
-        if let Some(e) = frame::body_refusal(kind, body) {
-            return Err(e);
-        }
+        frame::check_body(kind, body)?;
         if 8 + body.len() > A::row_of().message {
             return Err(Refusal::MessageLength);
         }

@@ -29,7 +29,7 @@ fn put_hash<H: Hash>(hash: &mut H, message: &[u8], out: &mut [u8]) -> u32
 {
     let n = 4 * H::shape_of().words;
     if n > out.len() {
-        return Refusal::Room.code() as u32;
+        return u32::from(u8::from(Refusal::Room));
     }
     let mut code = [0; 32];
     hash_message(hash, message, &mut code);
@@ -42,7 +42,7 @@ fn put_hash_by(hash: Option<HashKind>, message: &[u8], out: &mut [u8]) -> u32
     ensures code { out.new ≡ hash_put_by hash message.now out.old }
 {
     let Some(hash) = hash else {
-        return Refusal::Unknown.code() as u32;
+        return u32::from(u8::from(Refusal::Unknown));
     };
     match hash {
         HashKind::OfRipemd160 => put_hash(&mut Ripemd160::new(), message, out),
@@ -83,6 +83,6 @@ pub extern "C" fn kallqono_tag(
             *rounds = made;
             0
         }
-        Err(e) => e.code() as u32,
+        Err(e) => u32::from(u8::from(e)),
     }
 }

@@ -23,7 +23,7 @@ fn lay(replies: &[u8], out: &mut [u8], size: &mut usize) -> u32
     let n = replies.len();
     *size = n;
     if n > out.len() {
-        return Refusal::Room.code() as u32;
+        return u32::from(u8::from(Refusal::Room));
     }
     out[0..n].copy_from_slice(replies);
     0

@@ -2,65 +2,51 @@
 // and the question's number is all that comes back.
 #![tactic(auto)]
 
-ghost use Rattle.std.specs.Prelude.{◌≡◌};
+ghost use Rattle.std.specs.Prelude.{◌≡◌, Some, decimal};
 ghost use Rattle.refusals.specs.Numbers.{number};
+
+use std::fmt;
 
 #[derive(Clone, Copy, PartialEq, Eq, Debug)]
 pub enum Refusal {
-    Unknown,
-    NoAddedWords,
-    KeyLength,
-    TagLength,
-    MessageLength,
-    Room,
-    NoSlot,
-    SlotEmpty,
-    NoLane,
-    LaneBusy,
-    NotBegun,
-    TagSize,
-    Kind,
-    Body,
-    NumbersSpent,
-    FrameLength,
-    Version,
-    Address,
-    OldNumber,
-    WrongTag,
-    OrderInHand,
-    NotInHand,
-    OwnAddress,
+    Unknown = 1,
+    NoAddedWords = 2,
+    KeyLength = 3,
+    TagLength = 4,
+    MessageLength = 5,
+    Room = 6,
+    NoSlot = 7,
+    SlotEmpty = 8,
+    NoLane = 9,
+    LaneBusy = 10,
+    NotBegun = 11,
+    TagSize = 12,
+    Kind = 13,
+    Body = 14,
+    NumbersSpent = 15,
+    FrameLength = 16,
+    Version = 17,
+    Address = 18,
+    OldNumber = 19,
+    WrongTag = 20,
+    OrderInHand = 21,
+    NotInHand = 22,
+    OwnAddress = 23,
 }
 
-impl Refusal {
-    // The number of the question that was answered no.
-    pub fn code(self) -> u8
-        ensures { result ≡ number self }
-    {
-        match self {
-            Refusal::Unknown => 1,
-            Refusal::NoAddedWords => 2,
-            Refusal::KeyLength => 3,
-            Refusal::TagLength => 4,
-            Refusal::MessageLength => 5,
-            Refusal::Room => 6,
-            Refusal::NoSlot => 7,
-            Refusal::SlotEmpty => 8,
-            Refusal::NoLane => 9,
-            Refusal::LaneBusy => 10,
-            Refusal::NotBegun => 11,
-            Refusal::TagSize => 12,
-            Refusal::Kind => 13,
-            Refusal::Body => 14,
-            Refusal::NumbersSpent => 15,
-            Refusal::FrameLength => 16,
-            Refusal::Version => 17,
-            Refusal::Address => 18,
-            Refusal::OldNumber => 19,
-            Refusal::WrongTag => 20,
-            Refusal::OrderInHand => 21,
-            Refusal::NotInHand => 22,
-            Refusal::OwnAddress => 23,
-        }
+// The number of the question that was answered no.
+impl From<Refusal> for u8 {
+    ghost from_gives = { λ refusal n. n ≡ number refusal };
+
+    fn from(refusal: Refusal) -> u8 {
+        refusal as u8
+    }
+}
+
+impl fmt::Display for Refusal {
+    ghost output = { λ refusal. Some (decimal (number refusal)) };
+
+    fn fmt<W: fmt::Write>(&self, f: &mut fmt::Formatter<W>) -> fmt::Result {
+        write!(f, "{}", u8::from(*self))
     }
 }

@@ -36,7 +36,7 @@ fn put_refusal(out: &mut Vec<u8>, refusal: Refusal)
     out.push_reserved(b'n');
     out.push_reserved(b'o');
     out.push_reserved(b' ');
-    put_decimal(out, u64::from(refusal.code())).unwrap();
+    put_decimal(out, u64::from(u8::from(refusal))).unwrap();
 }
 
 // What the request comes to; room for the newline is left.

@@ -26,7 +26,7 @@ pub(crate) fn put_refusal(out: &mut Vec<u8>, refusal: Refusal) -> Result<(), All
     ensures { OnOk result (out.new.items ≡ out.old.items ++ refused refusal) }
 {
     out.extend_from_slice(b"no")?;
-    put_spaced(out, &[u64::from(refusal.code())])
+    put_spaced(out, &[u64::from(u8::from(refusal))])
 }
 
 // A word, and bytes in hexadecimal.

@@ -117,10 +117,7 @@ fn run(
 
 fn tell(rt: &HostRuntime, what: &str, answer: &Answer) -> io::Result<()> {
     match answer {
-        Answer::Refused(refusal) => {
-            let number = refusal.code();
-            println!(rt; "  {what}: refused by {number}")
-        }
+        Answer::Refused(refusal) => println!(rt; "  {what}: refused by {refusal}"),
         Answer::Done => println!(rt; "  {what}: done"),
         Answer::Tag(_) => println!(rt; "  {what}: a tag"),
         Answer::Verdict(true) => println!(rt; "  {what}: the tag is right"),

@@ -136,7 +136,7 @@ fn number_agrees(row: &AskRow) -> bool {
     );
     let number = match made {
         Ok(_) => 0,
-        Err(refusal) => refusal.code(),
+        Err(refusal) => u8::from(refusal),
     };
     number == row.number && work == [0; 64] && (number == 0 || out == [0xee; 32])
 }

@@ -7,5 +7,5 @@ use Rattle.scripts.proofs.reply.put_refusal.Goals as goal
 pub returns : goal.returns
 returns c =
     IfOk-weaker c.put_spaced.result _ _
-    (λ x e. joins (vec_items c.args.out.now) _ _ (codes "no") _ c.in_ok-extend_from_slice.ensures.items (e ∙ ap (λ n. vec_items c.extend_from_slice.new.self ++ spaced (n ∷ [])) (c.from.ensures ∙ c.code.ensures)))
+    (λ x e. joins (vec_items c.args.out.now) _ _ (codes "no") _ c.in_ok-extend_from_slice.ensures.items (e ∙ ap (λ n. vec_items c.extend_from_slice.new.self ++ spaced (n ∷ [])) (c.from-2.ensures ∙ c.from.ensures)))
     c.put_spaced.ensures

@@ -6,7 +6,7 @@ ghost use Rattle.scripts.specs.Script.{lines_of, script_of};
 ghost use Rattle.scripts.specs.Told.{told};
 
 use crate::command::Command;
-use crate::read::command_in;
+use crate::read::{Unread, command_in};
 use std::alloc::{AllocError, Global};
 use text::split;
 
@@ -22,12 +22,23 @@ fn lines_in(heap: Global, input: &[u8]) -> Result<Vec<&[u8]>, AllocError>
     Ok(lines)
 }
 
+// What a line says; nothing where it is of another form.
+fn command_or_none(heap: Global, line: &[u8]) -> Result<Option<Command>, AllocError>
+    ensures { IfOk result (λ o. option_map told o ≡ said_by line.now) }
+{
+    match command_in(heap, line) {
+        Ok(command) => Ok(Some(command)),
+        Err(Unread::OtherForm) => Ok(None),
+        Err(Unread::NoMemory(e)) => Err(e),
+    }
+}
+
 fn commands_in(heap: Global, lines: &[&[u8]]) -> Result<Vec<Option<Command>>, AllocError>
     ensures { IfOk result (λ v. map (option_map told) v.items ≡ map said_by (map (λ l. l.now) lines.now)) }
 {
     let mut commands = Vec::new(heap);
     for line in lines {
-        commands.push(command_in(heap, line)?)?;
+        commands.push(command_or_none(heap, line)?)?;
     }
     Ok(commands)
 }

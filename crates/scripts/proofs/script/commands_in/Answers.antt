@@ -11,7 +11,7 @@ pub loop-line-init : goal.loop-line-init
 loop-line-init c = ap (map (option_map told)) c.new-commands.ensures.items
 
 pub loop-line-preserved : goal.loop-line-preserved
-loop-line-preserved c = commands_more c.args.lines.now c.loop-line.line-index _ _ _ _ c.loop-line-test.true c.in_ok-push.ensures.items c.in_ok-command_in.ensures c.loop-line.invariant
+loop-line-preserved c = commands_more c.args.lines.now c.loop-line.line-index _ _ _ _ c.loop-line-test.true c.in_ok-push.ensures.items c.in_ok-command_or_none.ensures c.loop-line.invariant
 
 pub returns : goal.returns
 returns c = c.loop-line.invariant ∙ ap (λ l. map said_by (texts_of l)) (take_all c.loop-line.line-index c.args.lines.now c.loop-line-test.false)

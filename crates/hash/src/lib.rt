@@ -8,8 +8,10 @@ ghost use Rattle.hash.specs.Held.{filled, tail_after, joined, whole_blocks, rest
 ghost use Rattle.hash.specs.Meter.{after, moved};
 ghost use Rattle.hash.specs.Words.{word_of, words, blank};
 
+pub use meter::Meter;
 pub use words::{choose, majority, sum};
 
+mod meter;
 mod words;
 
 #[derive(Clone, Copy)]

@@ -1,8 +1,7 @@
--- RIPEMD-160 as a hash: its numbers, its first chain, its strings for MDx-MAC, and its meter. Assumes nothing.
-use Rattle.std.specs.Prelude.{ℕ, zero, suc, ◌+◌, ◌-◌, ◌^◌, min, List, [], ◌∷◌}
+-- RIPEMD-160 as a hash: its numbers, its first chain and its strings for MDx-MAC. Assumes nothing.
+use Rattle.std.specs.Prelude.{ℕ, zero, suc, List, [], ◌∷◌}
 use Rattle.hash.specs.Meaning.{Meaning}
 use Rattle.hash.specs.declared.ByteOrder.TheVariants.{LowFirst}
-use Rattle.ripemd160.specs.declared.Ripemd160.{Ripemd160}
 use Rattle.ripemd160.specs.Round.{round160}
 
 -- T0, T1 and T2. Ti is the first 16 bytes of the chain after one round, with no padding, on the 64 bytes of the digit i twice,
@@ -21,9 +20,3 @@ meaning160 = record {
   strings = strings160;
   phi = round160;
 }
-
-abbrev pub reading160 : Ripemd160 → ℕ
-reading160 h = min h.meter (2 ^ 64 - 1)
-
-abbrev pub next160 : Ripemd160 → Ripemd160
-next160 h = record { meter = min (h.meter + 1) (2 ^ 64 - 1) }

@@ -4,12 +4,13 @@
 
 ghost use Rattle.std.specs.Prelude.{◌≡◌, true, ◌++◌, take, drop};
 ghost use Rattle.hash.specs.Meaning.{step};
+ghost use Rattle.hash.specs.Meter.{shown, moved, shown_capped, shown_counts};
 ghost use Rattle.hash.specs.Words.{blank};
 ghost use Rattle.ripemd160.specs.Round.{joined};
-ghost use Rattle.ripemd160.specs.Means.{meaning160, reading160, next160};
+ghost use Rattle.ripemd160.specs.Means.{meaning160};
 ghost use Rattle.std.proofs.Common.{rules};
 
-use hash::{ByteOrder, Hash, Shape, block_words, none_added};
+use hash::{ByteOrder, Hash, Meter, Shape, block_words, none_added};
 pub use known::{known_codes, known_strings};
 use steps::{row, row_of, sum};
 pub use tables::order;
@@ -95,7 +96,7 @@ fn compress(chain: &mut [u32; 8], added: &[u32; 8], block: &[u8; 64])
 
 #[derive(Drop)]
 pub struct Ripemd160 {
-    meter: u64,
+    meter: Meter,
 }
 
 impl Ripemd160 {
@@ -103,7 +104,9 @@ impl Ripemd160 {
     pub fn new() -> Self
         ensures { result.meter ≡ 0 }
     {
-        Ripemd160 { meter: 0 }
+        Ripemd160 {
+            meter: Meter::new(),
+        }
     }
 }
 
@@ -135,9 +138,9 @@ impl Hash for Ripemd160 {
 
     ghost meaning = { meaning160 };
 
-    ghost reading = { reading160 };
+    ghost reading = { λ h. shown h.meter };
 
-    ghost next = { next160 };
+    ghost next = { λ h. record { meter = moved h.meter 1 } };
 
     ghost fits = { Prim.search rules };
 
@@ -151,9 +154,9 @@ impl Hash for Ripemd160 {
 
     ghost strings_blank = { Prim.search rules };
 
-    ghost capped = { Prim.search rules };
+    ghost capped = { λ h. shown_capped h.meter };
 
-    ghost counts = { Prim.search rules };
+    ghost counts = { λ h. shown_counts h.meter };
 
     fn shape_of() -> Shape {
         Self::SHAPE
@@ -168,11 +171,11 @@ impl Hash for Ripemd160 {
     }
 
     fn meter(&self) -> u64 {
-        self.meter
+        self.meter.reading()
     }
 
     fn round(&mut self, chain: &mut [u32; 8], added: &[u32; 8], block: &[u8; 64]) {
         compress(chain, added, block);
-        self.meter = self.meter.saturating_add(1);
+        self.meter.tick();
     }
 }

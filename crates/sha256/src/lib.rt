@@ -3,13 +3,14 @@
 
 ghost use Rattle.std.specs.Prelude.{◌≡◌, ℕ, ◌%◌, [], ◌∷◌, codes};
 ghost use Rattle.hash.specs.Meaning.{hashed};
+ghost use Rattle.hash.specs.Meter.{shown, moved, shown_capped, shown_counts};
 ghost use Rattle.sha256.specs.Primes.{prime, CubeRoot};
 ghost use Rattle.sha256.specs.Round.{constant};
-ghost use Rattle.sha256.specs.Means.{meaning256, reading256, next256};
+ghost use Rattle.sha256.specs.Means.{meaning256};
 ghost use Rattle.sha256.specs.Groups.{round_length};
 ghost use Rattle.std.proofs.Common.{rules};
 
-use hash::{ByteOrder, Hash, Shape};
+use hash::{ByteOrder, Hash, Meter, Shape};
 use steps::compress;
 use table::constant_at;
 
@@ -21,14 +22,16 @@ mod words;
 // A hash has no state but its meter, which counts rounds.
 #[derive(Drop)]
 pub struct Sha256 {
-    meter: u64,
+    meter: Meter,
 }
 
 impl Sha256 {
     pub fn new() -> Self
         ensures { result.meter ≡ 0 }
     {
-        Sha256 { meter: 0 }
+        Sha256 {
+            meter: Meter::new(),
+        }
     }
 }
 
@@ -65,9 +68,9 @@ impl Hash for Sha256 {
 
     ghost meaning = { meaning256 };
 
-    ghost reading = { reading256 };
+    ghost reading = { λ h. shown h.meter };
 
-    ghost next = { next256 };
+    ghost next = { λ h. record { meter = moved h.meter 1 } };
 
     ghost fits = { Prim.search rules };
 
@@ -81,9 +84,9 @@ impl Hash for Sha256 {
 
     ghost strings_blank = { Prim.search rules };
 
-    ghost capped = { Prim.search rules };
+    ghost capped = { λ h. shown_capped h.meter };
 
-    ghost counts = { Prim.search rules };
+    ghost counts = { λ h. shown_counts h.meter };
 
     fn shape_of() -> Shape {
         Self::SHAPE
@@ -98,11 +101,11 @@ impl Hash for Sha256 {
     }
 
     fn meter(&self) -> u64 {
-        self.meter
+        self.meter.reading()
     }
 
     fn round(&mut self, chain: &mut [u32; 8], added: &[u32; 8], block: &[u8; 64]) {
         compress(chain, added, block);
-        self.meter = self.meter.saturating_add(1);
+        self.meter.tick();
     }
 }

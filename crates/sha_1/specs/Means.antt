@@ -1,8 +1,7 @@
 -- SHA-1 as a hash: five words, four added, high byte first. Assumes nothing.
-use Rattle.std.specs.Prelude.{ℕ, zero, suc, ◌+◌, ◌-◌, ◌^◌, min, List, [], ◌∷◌, take, codes}
+use Rattle.std.specs.Prelude.{ℕ, zero, suc, List, [], ◌∷◌, take, codes}
 use Rattle.hash.specs.Meaning.{Meaning, chained, code, none}
 use Rattle.hash.specs.declared.ByteOrder.TheVariants.{HighFirst}
-use Rattle.sha_1.specs.declared.Sha1.{Sha1}
 use Rattle.sha_1.specs.Round.{round1, first1}
 
 -- T0, T1 and T2
@@ -13,12 +12,6 @@ strings1 (suc (suc i)) = 0x45 ∷ 0x44 ∷ 0x20 ∷ 0x96 ∷ 0x56 ∷ 0xe1 ∷ 0
 
 abbrev pub meaning1 : Meaning
 meaning1 = record { words = 5; added = 4; order = HighFirst; first = first1; strings = strings1; phi = round1 }
-
-abbrev pub reading1 : Sha1 → ℕ
-reading1 h = min h.meter (2 ^ 64 - 1)
-
-abbrev pub next1 : Sha1 → Sha1
-next1 h = record { meter = min (h.meter + 1) (2 ^ 64 - 1) }
 
 -- the block that T_i comes from: the digit of i twice, then the 62 letters and digits
 abbrev pub block_of_string : ℕ → List ℕ

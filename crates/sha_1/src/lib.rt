@@ -3,11 +3,12 @@
 
 ghost use Rattle.std.specs.Prelude.{◌≡◌, ℕ, ◌%◌, [], ◌∷◌, codes};
 ghost use Rattle.hash.specs.Meaning.{hashed};
-ghost use Rattle.sha_1.specs.Means.{meaning1, reading1, next1, strings1, block_of_string, string_of};
+ghost use Rattle.hash.specs.Meter.{shown, moved, shown_capped, shown_counts};
+ghost use Rattle.sha_1.specs.Means.{meaning1, strings1, block_of_string, string_of};
 ghost use Rattle.sha_1.specs.Groups.{round_length};
 ghost use Rattle.std.proofs.Common.{rules};
 
-use hash::{ByteOrder, Hash, Shape};
+use hash::{ByteOrder, Hash, Meter, Shape};
 use steps::compress;
 
 mod steps;
@@ -17,14 +18,16 @@ mod words;
 // A hash has no state but its meter, which counts rounds.
 #[derive(Drop)]
 pub struct Sha1 {
-    meter: u64,
+    meter: Meter,
 }
 
 impl Sha1 {
     pub fn new() -> Self
         ensures { result.meter ≡ 0 }
     {
-        Sha1 { meter: 0 }
+        Sha1 {
+            meter: Meter::new(),
+        }
     }
 }
 
@@ -72,9 +75,9 @@ impl Hash for Sha1 {
 
     ghost meaning = { meaning1 };
 
-    ghost reading = { reading1 };
+    ghost reading = { λ h. shown h.meter };
 
-    ghost next = { next1 };
+    ghost next = { λ h. record { meter = moved h.meter 1 } };
 
     ghost fits = { Prim.search rules };
 
@@ -88,9 +91,9 @@ impl Hash for Sha1 {
 
     ghost strings_blank = { Prim.search rules };
 
-    ghost capped = { Prim.search rules };
+    ghost capped = { λ h. shown_capped h.meter };
 
-    ghost counts = { Prim.search rules };
+    ghost counts = { λ h. shown_counts h.meter };
 
     fn shape_of() -> Shape {
         Self::SHAPE
@@ -105,11 +108,11 @@ impl Hash for Sha1 {
     }
 
     fn meter(&self) -> u64 {
-        self.meter
+        self.meter.reading()
     }
 
     fn round(&mut self, chain: &mut [u32; 8], added: &[u32; 8], block: &[u8; 64]) {
         compress(chain, added, block);
-        self.meter = self.meter.saturating_add(1);
+        self.meter.tick();
     }
 }

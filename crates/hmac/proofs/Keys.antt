@@ -1,18 +1,18 @@
 -- The filled key as it is written, and under a pad. Assumes nothing.
-use Rattle.std.proofs.Common.{◌≡◌, ℕ, ◌+◌, ◌-◌, ◌<◌, ◌≤◌, List, [], ◌∷◌, ◌++◌, length, get_or, take, drop, set, replicate, sym, refl, ap, ◌∙◌, append_assoc, append-nil, arith, length-append, length-drop, length-take}
+use Rattle.std.proofs.Common.{◌≡◌, ℕ, ◌+◌, ◌-◌, ◌<◌, ◌≤◌, min, List, [], ◌∷◌, ◌++◌, length, get_or, take, drop, set, replicate, sym, ap, ◌∙◌, append_assoc, append-nil, arith, length-append, length-take}
 use lib.Bits.{bit_xor}
-use borrow.Rule.Slice.PartMut.{put_mid, post_of}
-use Rattle.std.proofs.lemmas.List.{take_at, drop_at, drop_all, drop_more, set_at, map_more, length-map, length-replicate, take_all, get_or_at}
+use native.Mathlib.Nat.{sub-zero}
+use borrow.Rule.Slice.PartMut.{post_of}
+use Rattle.std.proofs.lemmas.List.{take-take, drop_all, drop-replicate, drop_more, set_at, map_more, length-map, length-replicate, take_all, get_or_at}
 use Rattle.hmac.specs.Hmac.{xored, filled_key}
 
-pub laid : (key w f b : List ℕ) (size : ℕ) → w ≡ key → length b ≡ 64 → length key ≤ 64 → f ≡ replicate size 0 → size ≡ 64 - length key →
-    put_mid (length key) (64 - length key) (w ++ post_of 0 (length key - 0) b) f ≡ filled_key key
-laid key w f b size isW l le isF isSize =
-    let D = post_of 0 (length key - 0) b in
-    let front : take (length key) (key ++ D) ≡ key = take_at key D (length key) refl in
-    let back : drop (length key) (key ++ D) ≡ D = drop_at key D (length key) refl in
-    let past : drop (64 - length key) D ≡ [] = drop_all (64 - length key) D (simp length-drop (omega arith)) in
-    rw (isW, front, back, past, isF, isSize, append-nil)
+pub laid : (key w f : List ℕ) (n : ℕ) → n ≡ min (length key) 64 → w ≡ take n key → f ≡ replicate 64 0 → w ++ post_of 0 (n - 0) f ≡ filled_key (take 64 key)
+laid key w f n isN isW isF =
+    let K = take 64 key in
+    let long : length K ≡ n = simp length-take (omega arith) in
+    let same : take n key ≡ K = sym (take-take n 64 key (omega arith)) ∙ take_all n K (omega arith) in
+    let rest : post_of 0 (n - 0) f ≡ replicate (64 - length K) 0 = ap (λ (i : ℕ). drop i f) (sub-zero n) ∙ ap (drop n) isF ∙ drop-replicate n 64 0 ∙ ap (λ (i : ℕ). replicate (64 - i) 0) (sym long) in
+    rw (isW, same, rest)
 
 pub xored_more : (pad : ℕ) (xs b : List ℕ) (i : ℕ) → i < length xs → b ≡ xored pad (take i xs) ++ drop i xs →
     set b i (bit_xor (get_or b i 0) pad) ≡ xored pad (take (i + 1) xs) ++ drop (i + 1) xs
@@ -33,7 +33,3 @@ xored_all pad xs b i le is_b =
 
 pub padded_key : (pad : ℕ) (key : List ℕ) → length key ≤ 64 → length (xored pad (filled_key key)) ≡ 64
 padded_key pad key le = length-map (filled_key key) (λ x. bit_xor x pad) ∙ simp (length-append, length-replicate) (omega arith)
-
-pub rest_sized : (key w b : List ℕ) → w ≡ key → length b ≡ 64 → length key ≤ 64 →
-    length (take (64 - length key) (drop (length key) (w ++ post_of 0 (length key - 0) b))) ≡ 64 - length key
-rest_sized key w b isW l le = let size = ap length isW in simp (length-take, length-drop, length-append) (omega arith)

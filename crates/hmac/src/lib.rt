@@ -2,19 +2,18 @@
 // A key's record keeps the chains after the two padded keys, so that a message costs only its own blocks.
 #![tactic(auto)]
 
-ghost use Rattle.std.specs.Prelude.{◌≡◌, ℕ, ◌+◌, ◌-◌, ◌*◌, ◌/◌, ◌%◌, ◌^◌, ◌<◌, ◌≤◌, true, List, [], ◌++◌, length, replicate};
-ghost use Rattle.hash.specs.Meaning.{blocks};
+ghost use Rattle.std.specs.Prelude.{◌≡◌, ℕ, ◌+◌, ◌-◌, ◌*◌, ◌/◌, ◌%◌, ◌^◌, ◌<◌, ◌≤◌, true, List, [], ◌++◌, length, take, replicate};
 ghost use Rattle.hash.specs.Meter.{after};
 ghost use Rattle.mac.specs.Face.{within};
+ghost use Rattle.mac.specs.Plan.{Recorded, laws_of, streams_of};
 ghost use Rattle.mac.specs.Promises.{Closed};
-ghost use Rattle.hmac.specs.Hmac.{xored, filled_key, keys, after_block, Recorded, hmac_face, hmac_laws, hmac_row};
+ghost use Rattle.hmac.specs.Hmac.{keys, xored, filled_key, after_block, two_chains, hmac_plan, hmac_face};
 ghost use Rattle.std.proofs.Common.{arith, rules};
 ghost use Rattle.hash.proofs.Close.{chained_sized};
 ghost use Rattle.mac.proofs.Codes.{tag_sized};
 
 use hash::{Hash, chain_end, write_code};
-use mac::{Algorithm, KeyRecord, Row, Run, Span, Wipe, blank_record, feed, start_run};
-use refusals::Refusal;
+use mac::{Algorithm, KeyRecord, Row, Run, Span, blank_record};
 
 // The lengths of keys, in bytes.
 const KEYS: Span = Span {
@@ -23,7 +22,7 @@ const KEYS: Span = Span {
 };
 
 // The longest message, in bytes.
-const MOST: u32 = 1_048_576;
+const MOST: usize = 1_048_576;
 
 // Puts each byte of the block under a pad.
 fn xor_all(block: &mut [u8; 64], pad: u8)
@@ -34,14 +33,13 @@ fn xor_all(block: &mut [u8; 64], pad: u8)
     }
 }
 
-// The key, filled with zeros to the block.
+// The first 64 bytes of the key, filled with zeros to the block.
 fn lay_key(block: &mut [u8; 64], key: &[u8])
-    requires { length key.now ≤ 64 }
-    ensures { block.new ≡ filled_key key.now }
+    ensures { block.new ≡ filled_key (take 64 key.now) }
 {
-    let n = key.len();
-    block[0..n].copy_from_slice(key);
-    block[n..64].fill(0);
+    let n = key.len().min(64);
+    block.fill(0);
+    block[0..n].copy_from_slice(&key[0..n]);
 }
 
 // The chain after the one block that is the filled key under a pad.
@@ -52,8 +50,7 @@ fn keyed_chain<H: Hash>(
     pad: u8,
     chain: &mut [u32; 8],
 )
-    requires { length key.now ≤ 64 }
-    ensures chain { chain.new ≡ after_block H.meaning (xored pad (filled_key key.now)) }
+    ensures chain { chain.new ≡ after_block H.meaning (xored pad (filled_key (take 64 key.now))) }
     ensures meter { hash.new ≡ H.next hash.old }
 {
     lay_key(block, key);
@@ -64,8 +61,7 @@ fn keyed_chain<H: Hash>(
 
 // The record of a key: the chains after the filled key under each of the two pads.
 fn key_record<H: Hash>(hash: &mut H, block: &mut [u8; 64], key: &[u8]) -> KeyRecord
-    requires { within keys (length key.now) ≡ true }
-    ensures made { Recorded H.meaning result key.now }
+    ensures stands { within keys (length key.now) ≡ true → Recorded (two_chains H.meaning) result key.now }
     ensures meter { hash.new ≡ after H.next hash.old 2 }
 {
     let mut record = blank_record();
@@ -92,44 +88,27 @@ pub struct Hmac;
 impl<H: Hash> Algorithm<H> for Hmac {
     ghost face = { hmac_face H.Hash.meaning };
 
-    ghost laws = { hmac_laws H.Hash.meaning };
+    ghost laws = { let m = H.Hash.meaning in laws_of m (hmac_plan m) };
 
     ghost limits = { Prim.search rules };
+
+    ghost streams = { let m = H.Hash.meaning in streams_of m (hmac_plan m) };
 
     ghost sized = { λ k b t fits.
         let m = H.Hash.meaning in
         let few = H.Hash.fits.1 in
-        tag_sized m (hmac_row m).tag _ t (chained_sized m H.Hash.chain_long few m.first _ _ _ H.Hash.first_long) few (omega arith) fits };
+        tag_sized m (hmac_face m).row.tag _ t (chained_sized m H.Hash.chain_long few m.first _ _ _ H.Hash.first_long) few (omega arith) fits };
 
     fn row_of() -> Row {
-        Row {
-            key: KEYS,
-            tag: Span {
-                least: 1,
-                most: 4 * H::shape_of().words,
-            },
-            message: MOST as usize,
-        }
+        Row::new(KEYS, 4 * H::shape_of().words, MOST)
     }
 
     fn needs_added() -> bool {
         false
     }
 
-    fn expand(hash: &mut H, key: &[u8], work: &mut [u8; 64]) -> Result<KeyRecord, Refusal> {
-        let guard = Wipe { block: work };
-        if !KEYS.has(key.len()) {
-            return Err(Refusal::KeyLength);
-        }
-        Ok(key_record(hash, guard.block, key))
-    }
-
-    fn begin(record: &KeyRecord) -> Run {
-        start_run(record)
-    }
-
-    fn add(hash: &mut H, run: &mut Run, piece: &[u8]) -> Result<(), Refusal> {
-        feed(hash, run, &[0; 8], MOST, piece)
+    fn make_record(hash: &mut H, key: &[u8], work: &mut [u8; 64]) -> KeyRecord {
+        key_record(hash, work, key)
     }
 
     fn close(hash: &mut H, run: &mut Run, work: &mut [u8; 64]) {

@@ -9,6 +9,10 @@ use Rattle.mac.specs.declared.Run.{Run}
 abbrev pub within : Span → ℕ → Bool
 within s n = nat_le s.least n && nat_le n s.most
 
+-- a row whose tags are of one byte and more
+abbrev pub from_one : Span → ℕ → ℕ → Row
+from_one keys longest most = record { key = keys; tag = record { least = 1; most = longest }; message = most }
+
 pub record Face : Type 1 where
   -- the lengths of keys, tags and messages
   pub row : Row

@@ -1,3 +1,4 @@
 pub mod Face
+pub mod Plan
 pub mod Promises
 pub mod Stream

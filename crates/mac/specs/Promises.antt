@@ -34,7 +34,7 @@ module _ {H : Type 0} (next : H → H) (f : Face) where
     pub refused : (e : Refusal) → r ≡ Err e → (run1 ≡ run0) × (h1 ≡ h0)
     pub turned : Turned h0 h1
 
-  -- the step in which the algorithms differ: the tag of a run stands first in the work block
+  -- the step that ends a run: the tag of a run stands first in the work block
   pub record Closed (h0 h1 : H) (run : Run) (block1 : List ℕ) : Type 0 where
     pub long : length block1 ≡ 64
     pub code : (k b : List ℕ) (t : ℕ) → f.RunStands run k b → within f.row.tag t ≡ true → take t block1 ≡ f.tag k b t

@@ -1,17 +1,19 @@
 // One interface for every MAC algorithm over every hash. A key is expanded once into a record; a run takes a record's
-// key and is fed the message piece by piece; its end gives the tag. Records and runs are plain words and bytes, laid
-// out alike for all algorithms, and the work block in which key material is handled is lent by the caller.
+// key and is fed the message piece by piece; its end gives the tag. An algorithm gives its row and two steps, the making
+// of a record and the close of a run; all else stands here once. Records and runs are plain words and bytes, laid out
+// alike for all algorithms, and the work block in which key material is handled is lent by the caller.
 #![tactic(auto)]
 
 ghost use Rattle.std.specs.Prelude.{◌≡◌, ℕ, ◌+◌, ◌-◌, ◌*◌, ◌/◌, ◌%◌, ◌^◌, ◌<◌, ◌≤◌, true, List, [], ◌++◌, length, take, drop, replicate};
-ghost use Rattle.mac.specs.Face.{Face, Laws, Limits, within, free, blank, started};
+ghost use Rattle.hash.specs.Meter.{after};
+ghost use Rattle.mac.specs.Face.{Face, Laws, Limits, within, from_one, free, blank, started};
 ghost use Rattle.mac.specs.Promises.{wiped, Expanded, Added, Closed, Ended};
-ghost use Rattle.mac.specs.Stream.{Fed};
+ghost use Rattle.mac.specs.Stream.{Streams, Fed, added_of};
 
 use hash::{Hash, absorb};
 use refusals::Refusal;
 
-// Lengths from the least to the most.
+// Lengths from the least to the most. It is Copy, which std's RangeInclusive is not.
 #[derive(Clone, Copy)]
 pub struct Span {
     pub least: usize,
@@ -34,6 +36,22 @@ pub struct Row {
     pub message: usize,
 }
 
+impl Row {
+    // Tags of one byte and more.
+    pub fn new(key: Span, longest: usize, message: usize) -> Row
+        ensures { result ≡ from_one key longest message }
+    {
+        Row {
+            key,
+            tag: Span {
+                least: 1,
+                most: longest,
+            },
+            message,
+        }
+    }
+}
+
 // A key made ready: two chains, or a chain and added words, and sixteen bytes. Unused parts are zero.
 #[derive(Clone, Copy)]
 pub struct KeyRecord {
@@ -43,6 +61,7 @@ pub struct KeyRecord {
 }
 
 // A message under way: how many bytes it has been fed, the chain of its whole blocks, and the bytes left of them.
+// `begun` is a flag, and no enum, since a free run is all zeros and laid out like any other.
 #[derive(Clone, Copy)]
 pub struct Run {
     pub begun: bool,
@@ -51,6 +70,15 @@ pub struct Run {
     pub second: [u32; 8],
     pub bytes: [u8; 16],
     pub held: [u8; 64],
+}
+
+impl Run {
+    // The words that are added in each round: the second part, where the algorithm needs them.
+    fn added(&self, needs: bool) -> [u32; 8]
+        ensures { result ≡ added_of needs self.now }
+    {
+        if needs { self.second } else { [0; 8] }
+    }
 }
 
 // A work block on loan, wiped as it is let go.
@@ -78,23 +106,43 @@ pub trait Algorithm<H: Hash> {
     fn needs_added() -> bool
         ensures { result ≡ face.needs };
 
+    // The two steps in which the algorithms differ. The first makes the record of a key. Any key will do, but only one
+    // whose length the row has is stood for: `expand` asks.
+    fn make_record(hash: &mut H, key: &[u8], work: &mut [u8; 64]) -> KeyRecord
+        ensures stands { within face.row.key (length key.now) ≡ true → face.RecordStands result key.now }
+        ensures meter { hash.new ≡ after H.Hash.next hash.old face.setup };
+
+    // The second makes the last rounds, and leaves the longest tag first in the work block. What the run then holds is
+    // free, since `end` frees it.
+    fn close(hash: &mut H, run: &mut Run, work: &mut [u8; 64])
+        ensures { Closed H.Hash.next face hash.old hash.new run.old work.new };
+
     // Makes a key ready.
     fn expand(hash: &mut H, key: &[u8], work: &mut [u8; 64]) -> Result<KeyRecord, Refusal>
         ensures made { Expanded H.Hash.next face hash.old hash.new key.now result }
-        ensures zeroed { work.new ≡ wiped };
+        ensures zeroed { work.new ≡ wiped }
+    {
+        let guard = Wipe { block: work };
+        if !Self::row_of().key.has(key.len()) {
+            return Err(Refusal::KeyLength);
+        }
+        Ok(Self::make_record(hash, key, guard.block))
+    }
 
     // A run for no bytes.
     fn begin(record: &KeyRecord) -> Run
-        ensures { (k : List ℕ) → face.RecordStands «record».now k → face.RunStands result k [] };
+        ensures { (k : List ℕ) → face.RecordStands «record».now k → face.RunStands result k [] }
+    {
+        start_run(record)
+    }
 
     // Joins a piece at the end.
     fn add(hash: &mut H, run: &mut Run, piece: &[u8]) -> Result<(), Refusal>
-        ensures { Added H.Hash.next face hash.old hash.new run.old run.new piece.now result };
-
-    // The step in which the algorithms differ: makes the last rounds, and leaves the longest tag first in the work
-    // block. What the run then holds is free, since `end` frees it.
-    fn close(hash: &mut H, run: &mut Run, work: &mut [u8; 64])
-        ensures { Closed H.Hash.next face hash.old hash.new run.old work.new };
+        ensures { Added H.Hash.next face hash.old hash.new run.old run.new piece.now result }
+    {
+        let added = run.added(Self::needs_added());
+        feed(hash, run, &added, Self::row_of().message as u32, piece)
+    }
 
     // Writes the tag of t bytes, and leaves the run free.
     fn end(
@@ -125,6 +173,8 @@ pub trait Algorithm<H: Hash> {
 
     ghost limits: { Limits face };
 
+    ghost streams: { Streams H.Hash.meaning face };
+
     ghost sized: { (k b : List ℕ) (t : ℕ) → within face.row.tag t ≡ true → length (face.tag k b t) ≡ t };
 }
 
@@ -142,11 +192,7 @@ fn feed_run<H: Hash>(
         return Err(Refusal::NotBegun);
     }
     let fed = run.fed as usize;
-    let most = most as usize;
-    if fed > most {
-        return Err(Refusal::MessageLength);
-    }
-    if piece.len() > most - fed {
+    if fed + piece.len() > most as usize {
         return Err(Refusal::MessageLength);
     }
     absorb(hash, &mut run.chain, added, &mut run.held, fed, piece);

@@ -1,13 +1,9 @@
 -- MDx-MAC, algorithm 1 of ISO/IEC 9797-2:2011, over any hash. Assumes nothing.
-use Rattle.std.specs.Prelude.{◌≡◌, ℕ, ◌+◌, ◌-◌, ◌*◌, ◌/◌, ◌%◌, true, List, ◌++◌, length, take, replicate, refl}
-use Rattle.std.proofs.Common.{arith}
+use Rattle.std.specs.Prelude.{ℕ, ◌+◌, ◌-◌, ◌*◌, ◌/◌, ◌%◌, true, List, ◌++◌, length, take, replicate}
 use Rattle.hash.specs.Meaning.{Meaning, chained, blocks, padded, code, none}
 use Rattle.mac.specs.declared.Span.{Span}
-use Rattle.mac.specs.declared.Row.{Row}
-use Rattle.mac.specs.declared.KeyRecord.{KeyRecord}
-use Rattle.mac.specs.declared.Run.{Run}
-use Rattle.mac.specs.Face.{Face, Laws, within}
-use Rattle.mac.specs.Stream.{Stream}
+use Rattle.mac.specs.Face.{Face}
+use Rattle.mac.specs.Plan.{Keying, Plan, by_blocks, face_of}
 use Rattle.mdxmac.specs.Bytes.{both, repeated}
 
 -- K': the first 16 bytes of the key repeated
@@ -54,40 +50,19 @@ module _ (m : Meaning) where
   abbrev pub mdx_code : List ℕ → List ℕ → List ℕ
   mdx_code key message = code m (chained m (chained m (K0 key) (K1 key) (padded m.order message) (blocks (length message))) (K1 key) (last (K2 key)) 1)
 
-  abbrev pub mdx_row : Row
-  mdx_row = record { key = keys; tag = record { least = 1; most = 4 * m.words }; message = 1048576 }
+  -- K0 to start from, K1 to add, and K2
+  abbrev pub three_parts : Keying
+  three_parts = record { keys = keys; setup = 6; first = K0; second = K1; bytes = K2 }
 
-  pub record Recorded (r : KeyRecord) (key : List ℕ) : Type 0 where
-    pub size : within keys (length key) ≡ true
-    pub first : r.first ≡ K0 key
-    pub second : r.second ≡ K1 key
-    pub bytes : r.bytes ≡ K2 key
-
-  -- a run of at most so many bytes
-  pub record Standing (most : ℕ) (run : Run) (key bytes : List ℕ) : Type 0 where
-    pub size : within keys (length key) ≡ true
-    pub stream : Stream m most (K0 key) (K1 key) run bytes
-    pub second : run.second ≡ K1 key
-    pub spare : run.bytes ≡ K2 key
+  abbrev pub mdx_plan : Plan
+  mdx_plan = record {
+    keying = three_parts;
+    longest = 4 * m.words;
+    most = 1048576;
+    needs = true;
+    counts = by_blocks 1048576;
+    code = mdx_code;
+  }
 
   abbrev pub mdx_face : Face
-  mdx_face = record {
-    row = mdx_row;
-    needs = true;
-    setup = 6;
-    held = λ n. n / 64;
-    whole = λ n. blocks n + 1;
-    tag = λ key message t. take t (mdx_code key message);
-    RecordStands = Recorded;
-    RunStands = Standing 1048576;
-  }
-
-  pub mdx_laws : Laws mdx_face
-  mdx_laws = record {
-    none = refl;
-    rises = λ m n le. omega arith;
-    bounded = λ n. omega arith;
-    keyed = λ r k s. s.size;
-    begun = λ r k b s. s.stream.begun;
-    fits = λ r k b s. s.stream.few;
-  }
+  mdx_face = face_of m mdx_plan

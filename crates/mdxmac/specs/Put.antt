@@ -90,6 +90,12 @@ pub slice_index-K' : (key : List ℕ) (i : ℕ) → 1 ≤ length key → i < 16 
 unfolding K'
 slice_index-K' key i some lt = get_or-take 16 (repeated 16 key) i 0 lt ∙ slice_index-repeated key 16 i some lt
 
+-- an empty key has none
+pub put_nothing : (b key : List ℕ) (at : ℕ) → length key ≡ 0 → at ≤ length b → b ≡ put at (K' key) b
+unfolding K'
+put_nothing b [] at e le = put_none b [] at le
+put_nothing b (k ∷ ks) at e le = absurd (omega arith)
+
 -- bytes under bytes
 pub length_both : (xs ys : List ℕ) → length xs ≡ length ys → length (both xs ys) ≡ length xs
 length_both [] ys e = refl

@@ -1,11 +1,11 @@
 -- Algorithm 3 of ISO/IEC 9797-2:2011, for short strings, over any hash. Assumes nothing.
-use Rattle.std.specs.Prelude.{ℕ, ◌-◌, ◌*◌, true, List, ◌∷◌, ◌++◌, length, take, replicate, refl}
+use Rattle.std.specs.Prelude.{ℕ, ◌-◌, ◌*◌, true, List, ◌∷◌, ◌++◌, length, replicate, refl}
 use Rattle.std.proofs.Common.{arith}
 use Rattle.hash.specs.Meaning.{Meaning, chained, code, high_first}
-use Rattle.mac.specs.declared.Row.{Row}
-use Rattle.mac.specs.Face.{Face, Laws}
+use Rattle.mac.specs.Face.{Face}
+use Rattle.mac.specs.Plan.{Counts, Plan, face_of}
 use Rattle.mdxmac.specs.Bytes.{both}
-use Rattle.mdxmac.specs.Mdx.{keys, K0, K1, K2, Recorded, Standing}
+use Rattle.mdxmac.specs.Mdx.{K0, K1, K2, three_parts}
 
 -- L: a length of n bytes in bits, as 16 bytes, high byte first
 abbrev pub L : ℕ → List ℕ
@@ -19,31 +19,30 @@ filled32 message = message ++ replicate (32 - length message) 0
 abbrev pub short_block : List ℕ → List ℕ → List ℕ
 short_block k2 message = k2 ++ (filled32 message ++ both (L (length message)) k2)
 
+-- a message is held until it has ended, and then costs one round
+abbrev pub one_round : Counts 32
+one_round = record {
+  held = λ n. 0;
+  whole = λ n. 1;
+  none = refl;
+  rises = λ m n le. omega arith;
+  bounded = λ n. omega arith;
+  steady = λ n le. omega arith;
+}
+
 module _ (m : Meaning) where
   abbrev pub short_code : List ℕ → List ℕ → List ℕ
   short_code key message = code m (chained m (K0 m key) (K1 m key) (short_block (K2 m key) message) 1)
 
-  abbrev pub short_row : Row
-  short_row = record { key = keys; tag = record { least = 1; most = 2 * m.words }; message = 32 }
+  abbrev pub short_plan : Plan
+  short_plan = record {
+    keying = three_parts m;
+    longest = 2 * m.words;
+    most = 32;
+    needs = true;
+    counts = one_round;
+    code = short_code;
+  }
 
   abbrev pub short_face : Face
-  short_face = record {
-    row = short_row;
-    needs = true;
-    setup = 6;
-    held = λ n. 0;
-    whole = λ n. 1;
-    tag = λ key message t. take t (short_code key message);
-    RecordStands = Recorded m;
-    RunStands = Standing m 32;
-  }
-
-  pub short_laws : Laws short_face
-  short_laws = record {
-    none = refl;
-    rises = λ m n le. omega arith;
-    bounded = λ n. omega arith;
-    keyed = λ r k s. s.size;
-    begun = λ r k b s. s.stream.begun;
-    fits = λ r k b s. s.stream.few;
-  }
+  short_face = face_of m short_plan

@@ -3,7 +3,8 @@ ghost use Rattle.std.specs.Prelude.{◌≡◌, ℕ, ◌+◌, ◌-◌, ◌*◌, �
 ghost use Rattle.hash.specs.Meaning.{step, code, none};
 ghost use Rattle.hash.specs.Meter.{after};
 ghost use Rattle.mac.specs.Face.{within};
-ghost use Rattle.mdxmac.specs.Mdx.{keys, mixed, Recorded};
+ghost use Rattle.mac.specs.Plan.{Recorded};
+ghost use Rattle.mdxmac.specs.Mdx.{keys, mixed, three_parts};
 
 use crate::lay::{put_key, put_strings};
 use hash::{Hash, write_code};
@@ -25,9 +26,8 @@ fn mixed_chain<H: Hash>(
     i: usize,
     chain: &mut [u32; 8],
 )
-    requires some { 1 ≤ length key.now }
-    requires few { i < 3 }
-    ensures chain { chain.new ≡ mixed H.meaning i key.now }
+    requires { i < 3 }
+    ensures chain { 1 ≤ length key.now → chain.new ≡ mixed H.meaning i key.now }
     ensures meter { hash.new ≡ after H.next hash.old 2 }
 {
     *chain = H::first_chain();
@@ -64,8 +64,7 @@ fn code_bytes<H: Hash>(chain: &[u32; 8], block: &mut [u8; 64], bytes: &mut [u8; 
 
 // K0, K1 and K2 of a key. The place of K1 serves for the chain that K2 is taken from.
 pub(crate) fn key_record<H: Hash>(hash: &mut H, block: &mut [u8; 64], key: &[u8]) -> KeyRecord
-    requires { within keys (length key.now) ≡ true }
-    ensures made { Recorded H.meaning result key.now }
+    ensures stands { within keys (length key.now) ≡ true → Recorded (three_parts H.meaning) result key.now }
     ensures meter { hash.new ≡ after H.next hash.old 6 }
 {
     let mut record = blank_record();

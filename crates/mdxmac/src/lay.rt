@@ -14,15 +14,16 @@ fn put_bytes(block: &mut [u8; 64], at: usize, bytes: &[u8; 16])
     block[at..at + 16].copy_from_slice(bytes);
 }
 
-// The first 16 bytes of the key repeated, at a place of the block.
+// The first 16 bytes of the key repeated, at a place of the block. An empty key has none.
 pub(crate) fn put_key(block: &mut [u8; 64], at: usize, key: &[u8])
-    requires place { at ≤ 48 }
-    requires some { 1 ≤ length key.now }
+    requires { at ≤ 48 }
     ensures { block.new ≡ put at (K' key.now) block.old }
 {
-    let n = key.len();
+    if key.is_empty() {
+        return;
+    }
     for i in 0..16 {
-        block[at + i] = key[i % n];
+        block[at + i] = key[i % key.len()];
     }
 }
 
@@ -31,8 +32,8 @@ fn mix_bytes(block: &mut [u8; 64], at: usize, with: &[u8; 16])
     requires { at ≤ 48 }
     ensures { block.new ≡ put at (both (take 16 (drop at block.old)) with.now) block.old }
 {
-    for i in 0..16 {
-        block[at + i] ^= with[i];
+    for (i, x) in with.iter().enumerate() {
+        block[at + i] ^= x;
     }
 }
 

@@ -3,9 +3,10 @@
 #![tactic(auto)]
 
 ghost use Rattle.std.specs.Prelude.{◌≡◌, ℕ, ◌+◌, ◌-◌, ◌*◌, ◌/◌, ◌%◌, ◌<◌, ◌≤◌, List, [], ◌++◌, length};
+ghost use Rattle.mac.specs.Plan.{laws_of, streams_of};
 ghost use Rattle.mac.specs.Promises.{Closed};
-ghost use Rattle.mdxmac.specs.Mdx.{mdx_face, mdx_laws, mdx_row};
-ghost use Rattle.mdxmac.specs.Short.{short_face, short_laws, short_row};
+ghost use Rattle.mdxmac.specs.Mdx.{mdx_plan, mdx_face};
+ghost use Rattle.mdxmac.specs.Short.{short_plan, short_face};
 ghost use Rattle.std.proofs.Common.{arith, rules};
 ghost use Rattle.hash.proofs.Close.{chained_sized};
 ghost use Rattle.mac.proofs.Codes.{tag_sized};
@@ -14,8 +15,7 @@ ghost use Rattle.mdxmac.specs.Mixing.{mixed_sized};
 use crate::keys::key_record;
 use crate::lay::{lay_last, lay_short};
 use hash::{Hash, chain_end, write_code};
-use mac::{Algorithm, KeyRecord, Row, Run, Span, Wipe, feed, start_run};
-use refusals::Refusal;
+use mac::{Algorithm, KeyRecord, Row, Run, Span};
 
 mod keys;
 mod lay;
@@ -24,9 +24,9 @@ mod lay;
 const KEYS: Span = Span { least: 1, most: 16 };
 
 // The longest message of each algorithm, in bytes.
-const MOST: u32 = 1_048_576;
+const MOST: usize = 1_048_576;
 
-const MOST_SHORT: u32 = 32;
+const MOST_SHORT: usize = 32;
 
 // Ends the message and makes the last round; the chain's code stands first in the block.
 fn close_run<H: Hash>(hash: &mut H, run: &mut Run, block: &mut [u8; 64])
@@ -43,7 +43,7 @@ fn close_run<H: Hash>(hash: &mut H, run: &mut Run, block: &mut [u8; 64])
 fn close_short<H: Hash>(hash: &mut H, run: &mut Run, block: &mut [u8; 64])
     ensures { Closed H.next (short_face H.meaning) hash.old hash.new run.old block.new }
 {
-    let n = run.fed.min(MOST_SHORT);
+    let n = run.fed.min(MOST_SHORT as u32);
     lay_short(block, &run.bytes, &run.held, n);
     hash.round(&mut run.chain, &run.second, block);
     write_code::<H>(&run.chain, block);
@@ -55,47 +55,29 @@ pub struct MdxMac;
 impl<H: Hash> Algorithm<H> for MdxMac {
     ghost face = { mdx_face H.Hash.meaning };
 
-    ghost laws = { mdx_laws H.Hash.meaning };
+    ghost laws = { let m = H.Hash.meaning in laws_of m (mdx_plan m) };
 
     ghost limits = { Prim.search rules };
+
+    ghost streams = { let m = H.Hash.meaning in streams_of m (mdx_plan m) };
 
     ghost sized = { λ k b t fits.
         let m = H.Hash.meaning in
         let few = H.Hash.fits.1 in
         let keeps = H.Hash.chain_long in
         let start = mixed_sized m keeps few H.Hash.first_long 0 k in
-        tag_sized m (mdx_row m).tag _ t (chained_sized m keeps few _ _ _ 1 (chained_sized m keeps few _ _ _ _ start)) few (omega arith) fits };
+        tag_sized m (mdx_face m).row.tag _ t (chained_sized m keeps few _ _ _ 1 (chained_sized m keeps few _ _ _ _ start)) few (omega arith) fits };
 
     fn row_of() -> Row {
-        Row {
-            key: KEYS,
-            tag: Span {
-                least: 1,
-                most: 4 * H::shape_of().words,
-            },
-            message: MOST as usize,
-        }
+        Row::new(KEYS, 4 * H::shape_of().words, MOST)
     }
 
     fn needs_added() -> bool {
         true
     }
 
-    fn expand(hash: &mut H, key: &[u8], work: &mut [u8; 64]) -> Result<KeyRecord, Refusal> {
-        let guard = Wipe { block: work };
-        if !KEYS.has(key.len()) {
-            return Err(Refusal::KeyLength);
-        }
-        Ok(key_record(hash, guard.block, key))
-    }
-
-    fn begin(record: &KeyRecord) -> Run {
-        start_run(record)
-    }
-
-    fn add(hash: &mut H, run: &mut Run, piece: &[u8]) -> Result<(), Refusal> {
-        let added = run.second;
-        feed(hash, run, &added, MOST, piece)
+    fn make_record(hash: &mut H, key: &[u8], work: &mut [u8; 64]) -> KeyRecord {
+        key_record(hash, work, key)
     }
 
     fn close(hash: &mut H, run: &mut Run, work: &mut [u8; 64]) {
@@ -109,47 +91,29 @@ pub struct ShortMac;
 impl<H: Hash> Algorithm<H> for ShortMac {
     ghost face = { short_face H.Hash.meaning };
 
-    ghost laws = { short_laws H.Hash.meaning };
+    ghost laws = { let m = H.Hash.meaning in laws_of m (short_plan m) };
 
     ghost limits = { Prim.search rules };
+
+    ghost streams = { let m = H.Hash.meaning in streams_of m (short_plan m) };
 
     ghost sized = { λ k b t fits.
         let m = H.Hash.meaning in
         let few = H.Hash.fits.1 in
         let keeps = H.Hash.chain_long in
         let start = mixed_sized m keeps few H.Hash.first_long 0 k in
-        tag_sized m (short_row m).tag _ t (chained_sized m keeps few _ _ _ 1 start) few (omega arith) fits };
+        tag_sized m (short_face m).row.tag _ t (chained_sized m keeps few _ _ _ 1 start) few (omega arith) fits };
 
     fn row_of() -> Row {
-        Row {
-            key: KEYS,
-            tag: Span {
-                least: 1,
-                most: 2 * H::shape_of().words,
-            },
-            message: MOST_SHORT as usize,
-        }
+        Row::new(KEYS, 2 * H::shape_of().words, MOST_SHORT)
     }
 
     fn needs_added() -> bool {
         true
     }
 
-    fn expand(hash: &mut H, key: &[u8], work: &mut [u8; 64]) -> Result<KeyRecord, Refusal> {
-        let guard = Wipe { block: work };
-        if !KEYS.has(key.len()) {
-            return Err(Refusal::KeyLength);
-        }
-        Ok(key_record(hash, guard.block, key))
-    }
-
-    fn begin(record: &KeyRecord) -> Run {
-        start_run(record)
-    }
-
-    fn add(hash: &mut H, run: &mut Run, piece: &[u8]) -> Result<(), Refusal> {
-        let added = run.second;
-        feed(hash, run, &added, MOST_SHORT, piece)
+    fn make_record(hash: &mut H, key: &[u8], work: &mut [u8; 64]) -> KeyRecord {
+        key_record(hash, work, key)
     }
 
     fn close(hash: &mut H, run: &mut Run, work: &mut [u8; 64]) {

@@ -3,7 +3,7 @@ use Rattle.hash.specs.Meaning.{blocks}
 use Rattle.hash.specs.Meter.{after}
 use Rattle.mac.proofs.Codes.{tag_first}
 use Rattle.mac.proofs.Spans.{at_most}
-use Rattle.hmac.specs.Hmac.{keys, hmac_row, hmac_code}
+use Rattle.hmac.specs.Hmac.{keys, hmac_face, hmac_code}
 use Rattle.hmac.proofs.Nested.{closed, end_turns}
 use Rattle.hmac.proofs.close_run.Goals as goal
 
@@ -19,7 +19,7 @@ returns g c =
     record {
       long = search rules;
       code = λ key bytes t s fits.
-          tag_first m (hmac_row m).tag c.write_code-2.new.block (hmac_code m key bytes) t (omega arith) fits
+          tag_first m (hmac_face m).row.tag c.write_code-2.new.block (hmac_code m key bytes) t (omega arith) fits
           (closed m few key bytes (at_most keys (length key) s.size) run.chain run.second run.held c.chain_end.new.chain c.chain_end-2.new.chain
           c.write_code.new.block c.write_code-2.new.block _ _ run.fed n s.stream.fed isN
           s.stream.chain s.stream.held s.second c.chain_end.ensures.chain c.write_code.ensures.size c.write_code.ensures.bytes c.chain_end-2.ensures.chain c.write_code-2.ensures.size c.write_code-2.ensures.bytes);

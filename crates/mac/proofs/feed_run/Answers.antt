@@ -1,41 +1,9 @@
-use borrow.Author.Tests.{both_ways}
 use Rattle.std.proofs.Common.{◌≡◌, ℕ, ◌+◌, ◌-◌, ◌*◌, ◌/◌, ◌%◌, ◌<◌, ◌++◌, length, take, drop, sym, refl, ap, ◌∙◌, arith, length-append, rules}
 use Rattle.hash.specs.Meaning.{chained}
 use Rattle.hash.specs.Meter.{after}
 use Rattle.hash.proofs.Gather.{kept_front}
 use Rattle.hash.proofs.Join.{join_chain, join_held}
-use Rattle.hash.proofs.Turns.{after_none}
 use Rattle.mac.proofs.feed_run.Goals as goal
-
-pub returns-then-not-run : goal.returns-then-not-run
-returns-then-not-run g c = record {
-  idle = λ _. refl;
-  long = λ e _. absurd (both_ways _ c.if-not-run.true e);
-  joined = λ start bytes s _. absurd (both_ways _ c.if-not-run.true s.begun);
-  refused = λ e _. (refl, refl);
-  turned = (0, sym (after_none g.H.Hash.next c.args.hash.now));
-  kept = (refl, refl);
-}
-
-pub returns-then-fed-most : goal.returns-then-fed-most
-returns-then-fed-most g c = record {
-  idle = λ e. absurd (both_ways _ e c.if-not-run.false);
-  long = λ _ _. refl;
-  joined = λ start bytes s le. let f = s.fed in let w = s.few in absurd (omega arith);
-  refused = λ e _. (refl, refl);
-  turned = (0, sym (after_none g.H.Hash.next c.args.hash.now));
-  kept = (refl, refl);
-}
-
-pub returns-then-piece-most : goal.returns-then-piece-most
-returns-then-piece-most g c = record {
-  idle = λ e. absurd (both_ways _ e c.if-not-run.false);
-  long = λ _ _. refl;
-  joined = λ start bytes s le. let f = s.fed in let w = s.few in absurd (omega arith);
-  refused = λ e _. (refl, refl);
-  turned = (0, sym (after_none g.H.Hash.next c.args.hash.now));
-  kept = (refl, refl);
-}
 
 pub returns : goal.returns
 returns g c =
@@ -49,8 +17,8 @@ returns g c =
     let low : at < 64 = omega arith in
     let size : length run.held ≡ 64 = search rules in
     record {
-      idle = λ e. absurd (both_ways _ e c.if-not-run.false);
-      long = λ _ lt. absurd (omega arith);
+      idle = search rules;
+      long = search (rules, arith);
       joined = λ start bytes s le.
           let n = length bytes in
           let same : at ≡ n % 64 = ap (λ (i : ℕ). i % 64) s.fed in
@@ -73,7 +41,7 @@ returns g c =
             },
             (let number : j ≡ (n + p) / 64 - n / 64 = omega (arith, s.fed) in c.absorb.ensures.meter ∙ ap (after next c.args.hash.now) number),
           );
-      refused = λ e q. absurd (let z : ◌≡◌ {A = ℕ} 0 1 = cc in omega arith);
-      turned = ((at + p) / 64, c.absorb.ensures.meter);
-      kept = (refl, refl);
+      refused = search rules;
+      turned = search rules;
+      kept = search rules;
     }

@@ -2,7 +2,7 @@ use Rattle.std.proofs.Common.{◌≡◌, ◌+◌, ◌-◌, ◌/◌, ◌%◌, len
 use Rattle.hash.specs.Meaning.{blocks}
 use Rattle.hash.specs.Meter.{after}
 use Rattle.mac.proofs.Codes.{tag_first}
-use Rattle.mdxmac.specs.Mdx.{mdx_row, mdx_code}
+use Rattle.mdxmac.specs.Mdx.{mdx_face, mdx_code}
 use Rattle.mdxmac.specs.Mixing.{closed, end_turns}
 use Rattle.mdxmac.proofs.close_run.Goals as goal
 
@@ -16,7 +16,7 @@ returns g c =
     record {
       long = search rules;
       code = λ key bytes t s fits.
-          tag_first m (mdx_row m).tag c.write_code.new.block (mdx_code m key bytes) t (omega arith) fits
+          tag_first m (mdx_face m).row.tag c.write_code.new.block (mdx_code m key bytes) t (omega arith) fits
           (closed m g.met.H.Hash.strings_long key bytes run.chain run.second run.bytes run.held c.chain_end.new.chain c.lay_last.new.block c.round.new.chain
           c.write_code.new.block _ run.fed s.stream.fed s.stream.chain s.second s.spare sizeK s.stream.held c.chain_end.ensures.chain c.lay_last.ensures c.round.ensures.chain c.write_code.ensures.size c.write_code.ensures.bytes);
       meter = λ key bytes s.

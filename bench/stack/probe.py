@@ -25,7 +25,7 @@ pub struct Work {
 fn number(r: Result<(), Refusal>) -> u32 {
     match r {
         Ok(()) => 0,
-        Err(e) => e.code() as u32,
+        Err(e) => u32::from(u8::from(e)),
     }
 }
 
@@ -37,9 +37,9 @@ fn ready<H: Hash, A: Algorithm<H>>(node: &mut Node<H, A>, key: &[u8], work: &mut
 CALLS = {
     "install": "    let mut node: Node<{H}, {A}> = Node::make({H}::new(), t as usize, 258);\n    let answer = ready(&mut node, key, work);\n    if node.desk().level == 100 {{\n        answer\n    }} else {{\n        99\n    }}\n",
     "seal": "    let mut node: Node<{H}, {A}> = Node::make({H}::new(), t as usize, 258);\n    let _ = ready(&mut node, key, work);\n"
-            "    match node.seal(2, kind as u8, body, 258, out, &mut work.bytes) {{\n        Ok(_) => 0,\n        Err(e) => e.code() as u32,\n    }}\n",
+            "    match node.seal(2, kind as u8, body, 258, out, &mut work.bytes) {{\n        Ok(_) => 0,\n        Err(e) => u32::from(u8::from(e)),\n    }}\n",
     "take": "    let mut node: Node<{H}, {A}> = Node::make({H}::new(), t as usize, 258);\n    let _ = ready(&mut node, key, work);\n"
-            "    match node.take(body, &mut work.bytes) {{\n        Ok(order) => {{\n            if order.fields().kind == kind {{\n                0\n            }} else {{\n                99\n            }}\n        }}\n        Err(e) => e.code() as u32,\n    }}\n",
+            "    match node.take(body, &mut work.bytes) {{\n        Ok(order) => {{\n            if order.fields().kind == kind {{\n                0\n            }} else {{\n                99\n            }}\n        }}\n        Err(e) => u32::from(u8::from(e)),\n    }}\n",
     "lane": "    let mut node: Node<{H}, {A}> = Node::make({H}::new(), t as usize, 258);\n    let _ = ready(&mut node, key, work);\n"
             "    let _ = node.open(1, 2);\n    let _ = node.feed(1, body);\n    number(node.finish(1, out, &mut work.bytes))\n",
 }

@@ -8,8 +8,8 @@ use Rattle.tags.specs.declared.HashKind.{HashKind}
 use Rattle.tags.specs.Kinds.{meaning_of}
 
 -- 0, or the number of the refusal
-abbrev pub status : Result ℕ Refusal → ℕ
-status (Ok rounds) = 0
+abbrev pub status : {X : Type 0} → Result X Refusal → ℕ
+status (Ok x) = 0
 status (Err e) = number e
 
 -- where rounds are counted: a refusal leaves what stood there

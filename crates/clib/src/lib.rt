@@ -22,29 +22,36 @@ pub struct Work {
     pub bytes: [u8; 64],
 }
 
+// 0, or the number of the refusal.
+fn status<T: Drop>(answer: Result<T, Refusal>) -> u32
+    ensures { result ≡ status answer }
+{
+    match answer {
+        Ok(_) => 0,
+        Err(refusal) => u32::from(u8::from(refusal)),
+    }
+}
+
 // The plain hash of a message, where there is room for it.
-fn put_hash<H: Hash>(hash: &mut H, message: &[u8], out: &mut [u8]) -> u32
-    ensures answer { result ≡ hash_status H.meaning (length out.old) }
+fn put_hash<H: Hash>(hash: &mut H, message: &[u8], out: &mut [u8]) -> Result<(), Refusal>
+    ensures answer { status result ≡ hash_status H.meaning (length out.old) }
     ensures code { out.new ≡ hash_put H.meaning message.now out.old }
 {
     let n = 4 * H::shape_of().words;
     if n > out.len() {
-        return u32::from(u8::from(Refusal::Room));
+        return Err(Refusal::Room);
     }
     let mut code = [0; 32];
     hash_message(hash, message, &mut code);
     out[0..n].copy_from_slice(&code[0..n]);
-    0
+    Ok(())
 }
 
-fn put_hash_by(hash: Option<HashKind>, message: &[u8], out: &mut [u8]) -> u32
-    ensures answer { result ≡ hash_status_by hash (length out.old) }
-    ensures code { out.new ≡ hash_put_by hash message.now out.old }
+fn put_hash_by(hash: u32, message: &[u8], out: &mut [u8]) -> Result<(), Refusal>
+    ensures answer { status result ≡ hash_status_by (hash_by hash) (length out.old) }
+    ensures code { out.new ≡ hash_put_by (hash_by hash) message.now out.old }
 {
-    let Some(hash) = hash else {
-        return u32::from(u8::from(Refusal::Unknown));
-    };
-    match hash {
+    match HashKind::try_from(hash)? {
         HashKind::OfRipemd160 => put_hash(&mut Ripemd160::new(), message, out),
         HashKind::OfSha1 => put_hash(&mut Sha1::new(), message, out),
         HashKind::OfSha256 => put_hash(&mut Sha256::new(), message, out),
@@ -57,7 +64,7 @@ pub extern "C" fn kallqono_hash(hash: u32, message: &[u8], out: &mut [u8]) -> u3
     ensures answer { result ≡ hash_status_by (hash_by hash) (length out.old) }
     ensures code { out.new ≡ hash_put_by (hash_by hash) message.now out.old }
 {
-    put_hash_by(HashKind::by_number(hash), message, out)
+    status(put_hash_by(hash, message, out))
 }
 
 // Writes the tag of t bytes and sets the rounds that it took; a refusal (1 to 6) leaves both as found. The work block is
@@ -78,11 +85,9 @@ pub extern "C" fn kallqono_tag(
     ensures tag { out.new ≡ written (answered algorithm hash t (length key.now) (length message.now) (length out.old)) (tag_of algorithm hash t key.now message.now) t out.old }
     ensures wiped { work.new.bytes ≡ wiped }
 {
-    match make_tag(algorithm, hash, t, key, message, out, &mut work.bytes) {
-        Ok(made) => {
-            *rounds = made;
-            0
-        }
-        Err(e) => u32::from(u8::from(e)),
+    let made = make_tag(algorithm, hash, t, key, message, out, &mut work.bytes);
+    if let Ok(count) = made {
+        *rounds = count;
     }
+    status(made)
 }

@@ -80,8 +80,8 @@ pub(crate) fn making_in(command: &Command) -> Making
 {
     let n = six(&command.numbers);
     Making {
-        algorithm: AlgorithmKind::by_number(n[0] as u32),
-        hash: HashKind::by_number(n[1] as u32),
+        algorithm: AlgorithmKind::try_from(n[0] as u32).ok(),
+        hash: HashKind::try_from(n[1] as u32).ok(),
         t: n[2] as usize,
         address: n[3] as u16,
     }

@@ -1,5 +1,7 @@
 -- The hashes and algorithms by their numbers. Assumes nothing.
-use Rattle.std.specs.Prelude.{ℕ, cond, Some, None, Option, ◌==◌}
+use Rattle.std.specs.Prelude.{◌≡◌, ℕ, cond, Some, None, Option, Result, MatchResult, ◌==◌}
+use Rattle.refusals.specs.declared.Refusal.{Refusal}
+use Rattle.refusals.specs.declared.Refusal.TheVariants.{Unknown}
 use Rattle.hash.specs.Meaning.{Meaning}
 use Rattle.ripemd160.specs.Means.{meaning160}
 use Rattle.sha_1.specs.Means.{meaning1}
@@ -20,6 +22,10 @@ hash_by n = cond (n == 1) (Some OfRipemd160) (cond (n == 3) (Some OfSha1) (cond 
 -- algorithm 1, 2 or 3
 abbrev pub algorithm_by : ℕ → Option AlgorithmKind
 algorithm_by n = cond (n == 1) (Some OfMdxMac) (cond (n == 2) (Some OfHmac) (cond (n == 3) (Some OfShortMac) None))
+
+-- the kind that a number has, if any; a number that has none is refused by question 1
+abbrev pub Found : {K : Type 0} → Option K → Result K Refusal → Type 0
+Found kind r = MatchResult r (λ k. kind ≡ Some k) (λ e. (e ≡ Unknown) × (kind ≡ None))
 
 abbrev pub meaning_of : HashKind → Meaning
 meaning_of OfRipemd160 = meaning160

@@ -1,3 +1,4 @@
 pub mod Kinds
 pub mod Asked
+pub mod OneShot
 pub mod Tag

@@ -81,11 +81,11 @@ fn hash_agrees(row: &HashRow) -> bool
 {
     let message = row.message.as_slice();
     let code = row.code.as_slice();
-    match HashKind::by_number(row.hash) {
-        Some(HashKind::OfRipemd160) => has_code(&mut Ripemd160::new(), message, code),
-        Some(HashKind::OfSha1) => has_code(&mut Sha1::new(), message, code),
-        Some(HashKind::OfSha256) => has_code(&mut Sha256::new(), message, code),
-        None => false,
+    match HashKind::try_from(row.hash) {
+        Ok(HashKind::OfRipemd160) => has_code(&mut Ripemd160::new(), message, code),
+        Ok(HashKind::OfSha1) => has_code(&mut Sha1::new(), message, code),
+        Ok(HashKind::OfSha256) => has_code(&mut Sha256::new(), message, code),
+        Err(_) => false,
     }
 }
 

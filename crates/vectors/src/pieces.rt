@@ -60,13 +60,10 @@ fn tag_over<H: Hash>(
 
 // Writes the tag of a row, made in pieces.
 pub(crate) fn tag_in_pieces(row: &TagRow, out: &mut [u8]) -> Result<(), Refusal> {
-    let Some(algorithm) = AlgorithmKind::by_number(row.algorithm) else {
-        return Err(Refusal::Unknown);
-    };
-    match HashKind::by_number(row.hash) {
-        Some(HashKind::OfRipemd160) => tag_over(&mut Ripemd160::new(), algorithm, row, out),
-        Some(HashKind::OfSha1) => tag_over(&mut Sha1::new(), algorithm, row, out),
-        Some(HashKind::OfSha256) => tag_over(&mut Sha256::new(), algorithm, row, out),
-        None => Err(Refusal::Unknown),
+    let algorithm = AlgorithmKind::try_from(row.algorithm)?;
+    match HashKind::try_from(row.hash)? {
+        HashKind::OfRipemd160 => tag_over(&mut Ripemd160::new(), algorithm, row, out),
+        HashKind::OfSha1 => tag_over(&mut Sha1::new(), algorithm, row, out),
+        HashKind::OfSha256 => tag_over(&mut Sha256::new(), algorithm, row, out),
     }
 }

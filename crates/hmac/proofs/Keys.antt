@@ -1,9 +1,9 @@
 -- The filled key as it is written, and under a pad. Assumes nothing.
-use Rattle.std.proofs.Common.{◌≡◌, ℕ, ◌+◌, ◌-◌, ◌<◌, ◌≤◌, min, List, [], ◌∷◌, ◌++◌, length, get_or, take, drop, set, replicate, sym, ap, ◌∙◌, append_assoc, append-nil, arith, length-append, length-take}
+use Rattle.std.proofs.Common.{◌≡◌, ℕ, ◌+◌, ◌-◌, ◌<◌, ◌≤◌, min, List, [], ◌∷◌, ◌++◌, length, get_or, take, drop, set, replicate, sym, ap, ◌∙◌, append_assoc, arith, length-append, length-take}
 use lib.Bits.{bit_xor}
 use native.Mathlib.Nat.{sub-zero}
 use borrow.Rule.Slice.PartMut.{post_of}
-use Rattle.std.proofs.lemmas.List.{take-take, drop_all, drop-replicate, drop_more, set_at, map_more, length-map, length-replicate, take_all, get_or_at}
+use Rattle.std.proofs.lemmas.List.{take-take, drop-replicate, drop_more, set_at, map_more, length-map, length-replicate, take_all, get_or_at}
 use Rattle.hmac.specs.Hmac.{xored, filled_key}
 
 pub laid : (key w f : List ℕ) (n : ℕ) → n ≡ min (length key) 64 → w ≡ take n key → f ≡ replicate 64 0 → w ++ post_of 0 (n - 0) f ≡ filled_key (take 64 key)
@@ -26,10 +26,6 @@ xored_more pad xs b i lt is_b =
     ap (λ (y : ℕ). set b i (bit_xor y pad)) here
     ∙ ap (λ (ys : List ℕ). set ys i (bit_xor x pad)) now ∙ set_at F x (drop (i + 1) xs) (bit_xor x pad) i size
     ∙ sym (ap (λ (ys : List ℕ). ys ++ drop (i + 1) xs) more ∙ append_assoc F (bit_xor x pad ∷ []) (drop (i + 1) xs))
-
-pub xored_all : (pad : ℕ) (xs b : List ℕ) (i : ℕ) → length xs ≤ i → b ≡ xored pad (take i xs) ++ drop i xs → b ≡ xored pad xs
-xored_all pad xs b i le is_b =
-    is_b ∙ ap (λ (ys : List ℕ). xored pad ys ++ drop i xs) (take_all i xs le) ∙ ap (λ (ys : List ℕ). xored pad xs ++ ys) (drop_all i xs le) ∙ append-nil (xored pad xs)
 
 pub padded_key : (pad : ℕ) (key : List ℕ) → length key ≤ 64 → length (xored pad (filled_key key)) ≡ 64
 padded_key pad key le = length-map (filled_key key) (λ x. bit_xor x pad) ∙ simp (length-append, length-replicate) (omega arith)

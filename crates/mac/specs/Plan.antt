@@ -18,14 +18,20 @@ pub record Counts (most : ℕ) : Type 0 where
   pub bounded : (n : ℕ) → held n ≤ whole n
   pub steady : (n : ℕ) → n ≤ most → held n ≡ n / 64
 
+pub rises_by_blocks : (m n : ℕ) → m ≤ n → m / 64 ≤ n / 64
+rises_by_blocks m n le = omega arith
+
+pub bounded_by_blocks : (n : ℕ) → n / 64 ≤ blocks n + 1
+bounded_by_blocks n = omega arith
+
 -- a round for each whole block, those of the padded message's end, and one more
 abbrev pub by_blocks : (most : ℕ) → Counts most
 by_blocks most = record {
   held = λ n. n / 64;
   whole = λ n. blocks n + 1;
   none = refl;
-  rises = λ m n le. omega arith;
-  bounded = λ n. omega arith;
+  rises = rises_by_blocks;
+  bounded = bounded_by_blocks;
   steady = λ n le. refl;
 }
 

@@ -1,5 +1,5 @@
 -- Algorithm 3 of ISO/IEC 9797-2:2011, for short strings, over any hash. Assumes nothing.
-use Rattle.std.specs.Prelude.{ℕ, ◌-◌, ◌*◌, true, List, ◌∷◌, ◌++◌, length, replicate, refl}
+use Rattle.std.specs.Prelude.{◌≡◌, ℕ, ◌-◌, ◌*◌, ◌/◌, ◌≤◌, true, List, ◌∷◌, ◌++◌, length, replicate, refl}
 use Rattle.std.proofs.Common.{arith}
 use Rattle.hash.specs.Meaning.{Meaning, chained, code, high_first}
 use Rattle.mac.specs.Face.{Face}
@@ -19,15 +19,21 @@ filled32 message = message ++ replicate (32 - length message) 0
 abbrev pub short_block : List ℕ → List ℕ → List ℕ
 short_block k2 message = k2 ++ (filled32 message ++ both (L (length message)) k2)
 
+pub none_held : (n : ℕ) → 0 ≤ n
+none_held n = omega arith
+
+pub short_fits : (n : ℕ) → n ≤ 32 → 0 ≡ n / 64
+short_fits n le = omega arith
+
 -- a message is held until it has ended, and then costs one round
 abbrev pub one_round : Counts 32
 one_round = record {
   held = λ n. 0;
   whole = λ n. 1;
   none = refl;
-  rises = λ m n le. omega arith;
-  bounded = λ n. omega arith;
-  steady = λ n le. omega arith;
+  rises = λ m n le. none_held 0;
+  bounded = λ n. none_held 1;
+  steady = short_fits;
 }
 
 module _ (m : Meaning) where

@@ -1,13 +1,8 @@
-use Rattle.std.proofs.Common.{◌<◌, ◌≤◌, length, rules}
-use Rattle.hmac.proofs.Keys.{xored_more, xored_all}
+use Rattle.std.proofs.Common.{◌<◌, length, rules}
+use Rattle.hmac.proofs.Keys.{xored_more}
 use Rattle.hmac.proofs.xor_all.Goals as goal
 
 pub loop-x-preserved : goal.loop-x-preserved
 loop-x-preserved c =
     let inside : c.loop-x.x-index < length c.args.block.now = search rules in
     xored_more c.args.pad c.args.block.now c.loop-x.block c.loop-x.x-index inside c.loop-x.invariant
-
-pub returns : goal.returns
-returns c =
-    let past : length c.args.block.now ≤ c.loop-x.x-index = search rules in
-    xored_all c.args.pad c.args.block.now c.loop-x.block c.loop-x.x-index past c.loop-x.invariant

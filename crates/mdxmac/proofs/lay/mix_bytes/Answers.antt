@@ -1,10 +1,7 @@
 use Rattle.std.proofs.Common.{◌≡◌, ◌<◌, length, take, drop, arith}
 use Rattle.mdxmac.specs.Bytes.{both}
-use Rattle.mdxmac.specs.Put.{put_none, put_step, put_end, mix_byte, mix_sized}
+use Rattle.mdxmac.specs.Put.{put_step, put_end, mix_byte, mix_sized}
 use Rattle.mdxmac.proofs.lay.mix_bytes.Goals as goal
-
-pub loop-i-init : goal.loop-i-init
-loop-i-init c = put_none c.args.block.now (both (take 16 (drop c.args.at c.args.block.now)) c.args.with.now) c.args.at (omega arith)
 
 pub loop-i-preserved : goal.loop-i-preserved
 loop-i-preserved c =

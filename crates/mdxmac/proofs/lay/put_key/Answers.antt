@@ -1,15 +1,12 @@
 use Rattle.std.proofs.Common.{◌≡◌, ◌<◌, ◌≤◌, length, sym, arith, rules}
 use Rattle.mdxmac.specs.Mdx.{K'}
-use Rattle.mdxmac.specs.Put.{put_nothing, put_none, put_step, put_end, length-K', slice_index-K'}
+use Rattle.mdxmac.specs.Put.{put_nothing, put_step, put_end, length-K', slice_index-K'}
 use Rattle.mdxmac.proofs.lay.put_key.Goals as goal
 
 pub returns-then-is_empty : goal.returns-then-is_empty
 returns-then-is_empty c =
     let none : length c.args.key.now ≡ 0 = search (rules, arith) in
     put_nothing c.args.block.now c.args.key.now c.args.at none (omega arith)
-
-pub loop-i-init : goal.loop-i-init
-loop-i-init c = put_none c.args.block.now (K' c.args.key.now) c.args.at (omega arith)
 
 pub loop-i-preserved : goal.loop-i-preserved
 loop-i-preserved c =

@@ -1,5 +1,5 @@
 -- Each call keeps the agreement of a model with its history. Assumes nothing.
-use Rattle.std.proofs.Common.{◌≡◌, ℕ, ◌+◌, ◌-◌, ◌<◌, ◌≤◌, min, Bool, true, false, cond, not, ◌&&◌, ◌||◌, eqb, ltb, leb, List, [], ◌∷◌, ◌++◌, length, get_or, take, drop, replicate, is_some, Some, None, Err, Decides, Option, Result, unwrap_or, sym, refl, ap, ◌∙◌, subst, arith, length-append, Bor, ltb-true}
+use Rattle.std.proofs.Common.{◌≡◌, ℕ, ◌+◌, ◌-◌, ◌<◌, ◌≤◌, min, Bool, true, false, cond, not, ◌&&◌, ◌||◌, eqb, ltb, leb, List, [], ◌∷◌, ◌++◌, length, get_or, take, drop, replicate, is_some, Some, None, Ok, Err, Decides, Option, Result, unwrap_or, sym, refl, ap, ◌∙◌, subst, arith, length-append, Bor, ltb-true}
 use borrow.Author.Tests.{both_ways}
 use Rattle.std.proofs.lemmas.Bool.{eq-eqb, ne_eqb}
 use Rattle.std.proofs.lemmas.List.{take_at}
@@ -24,14 +24,13 @@ use Rattle.node.specs.declared.desk.Desk.{Desk}
 use Rattle.node.specs.declared.desk.Fields.{Fields}
 use Rattle.node.specs.declared.replay.Call.{Call}
 use Rattle.node.specs.declared.replay.Call.TheVariants.{Install, Clear, Open, Feed, Finish, Judge, Drop, Seal, Take, Carry, Decline}
-use Rattle.node.specs.declared.replay.Answer.{Answer}
-use Rattle.node.specs.declared.replay.Answer.TheVariants.{Refused, Done, Tag, Verdict, Frame, Given}
+use Rattle.node.specs.declared.replay.Outcome.TheVariants.{Done, Tag, Verdict, Given}
 use Rattle.node.specs.Asking.{making_q, install_q, clear_q, open_q, feed_q, drop_q, finish_q, judge_q, seal_q, frame_q, end_q, addressed}
 use Rattle.node.specs.Model.{Model, Opened, After, refused, unless, key_at, run_at, fed_of, with_slot, with_lane, with_desk}
 use Rattle.node.specs.Model as model
 use Rattle.node.specs.Calls.{guarded, install, clear, open_lane, feed, drop_lane, finish, judge, seal, take_frame, tried, carry, decline, key_of, bytes_of, joined, tag_at, sealed_frame, desk_sealed, desk_taken, desk_carried, desk_declined, order_of}
 use Rattle.node.specs.Replaying.{Act, act, placed, performed, Narrow, Performs}
-use Rattle.node.specs.Replies.{done_of, tag_of, verdict_of, frame_of, fields_of}
+use Rattle.node.specs.Replies.{Answer, done_of, tag_of, verdict_of, framed, frame_of, fields_of}
 use Rattle.history.specs.History.{Event, event, AtSlot, AtLane, AtDesk, at_slot, at_lane, at_desk, accepted, compared, slot_deed, lane_deed, desk_deed, key_in, key_after, Runs, fed_more, fed_bytes, order_in, order_held, numbers_taken, frame_in, numbers_sealed, newest}
 use Rattle.history.specs.Law.{Right, Answered, Taken, questions, asked, right_tag, cost, settled, held_rounds, whole_rounds}
 use Rattle.history.specs.Keeps.{Books, Agrees, Keeps}
@@ -68,10 +67,10 @@ module _ (f : Face) (laws : Laws f) (added t own : ℕ) (h : List Event) (m : Mo
     rounds : cost f (event c a ∷ h) ≡ cost f h + x.rounds
 
   module _ (e : Refusal) (plain : eqb (number e) 20 ≡ false) where
-    uncompared : compared (Refused e) ≡ false
+    uncompared : compared (Err e) ≡ false
     uncompared = ap (λ b. b || eqb (number e) 20) (refuses e) ∙ plain
 
-    right_refused : (c : Call) → Right f added t own h c (Refused e)
+    right_refused : (c : Call) → Right f added t own h c (Err e)
     right_refused (Install s key) = λ y. absurd (both_ways _ (refuses e) y)
     right_refused (Clear s) = λ y. absurd (both_ways _ (refuses e) y)
     right_refused (Open l s) = λ y. absurd (both_ways _ (refuses e) y)
@@ -84,7 +83,7 @@ module _ (f : Face) (laws : Laws f) (added t own : ℕ) (h : List Event) (m : Mo
     right_refused (Carry o) = λ y. absurd (both_ways _ (refuses e) y)
     right_refused (Decline o) = λ y. absurd (both_ways _ (refuses e) y)
 
-    free_refused : (c : Call) → settled f h c (Refused e) ≡ 0
+    free_refused : (c : Call) → settled f h c (Err e) ≡ 0
     free_refused (Install s key) = ap (λ b. cond b f.setup 0) (refuses e)
     free_refused (Clear s) = refl
     free_refused (Open l s) = refl
@@ -98,9 +97,9 @@ module _ (f : Face) (laws : Laws f) (added t own : ℕ) (h : List Event) (m : Mo
     free_refused (Decline o) = refl
 
   -- a refused call: nothing but the history has changed, and the sum by r
-  still : {X : Type 0} (c : Call) (e : Refusal) (r : ℕ) (v : Result X Refusal) → Answered f added t own h (event c (Refused e)) → settled f h c (Refused e) ≡ r → Goes {X = X} c (Refused e) (record { answer = v; model = m; rounds = r })
+  still : {X : Type 0} (c : Call) (e : Refusal) (r : ℕ) (v : Result X Refusal) → Answered f added t own h (event c (Err e)) → settled f h c (Err e) ≡ r → Goes {X = X} c (Err e) (record { answer = v; model = m; rounds = r })
   still c e r v right costs =
-      let ev : Event = event c (Refused e) in
+      let ev : Event = event c (Err e) in
       let ks : (s : ℕ) → slot_deed ev s ≡ AtSlot.leaves = λ s. ap (λ b. cond b (at_slot c s) AtSlot.leaves) (refuses e) in
       let ls : (l : ℕ) → lane_deed ev l ≡ AtLane.leaves = λ l. ap (λ b. cond b (at_lane c l) AtLane.leaves) (refuses e) in
       let d : desk_deed ev ≡ AtDesk.leaves = ap (λ b. cond b (at_desk c) AtDesk.leaves) (refuses e) in
@@ -117,11 +116,11 @@ module _ (f : Face) (laws : Laws f) (added t own : ℕ) (h : List Event) (m : Mo
         rounds = cost_kept ev h f r costs ls;
       }
 
-  unmoved : {X : Type 0} (c : Call) (e : Refusal) → eqb (number e) 20 ≡ false → first_refusal (asked f added t own h c) ≡ Some e → Goes {X = X} c (Refused e) (refused m e)
+  unmoved : {X : Type 0} (c : Call) (e : Refusal) → eqb (number e) 20 ≡ false → first_refusal (asked f added t own h c) ≡ Some e → Goes {X = X} c (Err e) (refused m e)
   unmoved c e plain is = still c e 0 (Err e) (record { refusal = sym is; right = right_refused e plain c }) (free_refused e plain c)
 
   -- a call by its questions: refused by the first no, else accepted
-  by_questions : {X : Type 0} (of : Result X Refusal → Answer) → ((e : Refusal) → of (Err e) ≡ Refused e) → (c : Call) (qs : List Question) (x : After X) → Plain qs → ((e : Refusal) → first_refusal qs ≡ Some e → first_refusal (asked f added t own h c) ≡ Some e) → (first_refusal qs ≡ None → Goes c (of x.answer) x) → Goes c (of (unless (first_refusal qs) m x).answer) (unless (first_refusal qs) m x)
+  by_questions : {X : Type 0} (of : Result X Refusal → Answer) → ((e : Refusal) → of (Err e) ≡ Err e) → (c : Call) (qs : List Question) (x : After X) → Plain qs → ((e : Refusal) → first_refusal qs ≡ Some e → first_refusal (asked f added t own h c) ≡ Some e) → (first_refusal qs ≡ None → Goes c (of x.answer) x) → Goes c (of (unless (first_refusal qs) m x).answer) (unless (first_refusal qs) m x)
   by_questions {X} of errs c qs x plain same ok = by (first_refusal qs) refl
     where
       by : (o : Option Refusal) → first_refusal qs ≡ o → Goes c (of (unless o m x).answer) (unless o m x)
@@ -129,13 +128,13 @@ module _ (f : Face) (laws : Laws f) (added t own : ℕ) (h : List Event) (m : Mo
       by (Some e) q = subst (λ a. Goes c a (refused {X = X} m e)) (sym (errs e)) (unmoved c e (first_of (λ y. eqb (number y) 20 ≡ false) qs plain e q) (same e q))
 
   -- where the making was refused, so is every call
-  guard : {X : Type 0} (of : Result X Refusal → Answer) → ((e : Refusal) → of (Err e) ≡ Refused e) → (c : Call) (x : After X) → (first_refusal making ≡ None → Goes c (of x.answer) x) → Goes c (of (guarded m x).answer) (guarded m x)
+  guard : {X : Type 0} (of : Result X Refusal → Answer) → ((e : Refusal) → of (Err e) ≡ Err e) → (c : Call) (x : After X) → (first_refusal making ≡ None → Goes c (of x.answer) x) → Goes c (of (guarded m x).answer) (guarded m x)
   guard of errs c x ok =
       subst (λ o. Goes c (of (unless o m x).answer) (unless o m x)) (sym ag.refusal)
       (by_questions of errs c making x (refl, (refl, (refl, tt))) (λ e q. joined_some making (questions f added t own h c) e q) ok)
 
   -- both, where the past asks what the call asks
-  step : {X : Type 0} (of : Result X Refusal → Answer) → ((e : Refusal) → of (Err e) ≡ Refused e) → (c : Call) (qs : List Question) (x : After X) → Plain qs → questions f added t own h c ≡ qs → (first_refusal making ≡ None → first_refusal (asked f added t own h c) ≡ None → first_refusal qs ≡ None → Goes c (of x.answer) x) → Goes c (of (guarded m (unless (first_refusal qs) m x)).answer) (guarded m (unless (first_refusal qs) m x))
+  step : {X : Type 0} (of : Result X Refusal → Answer) → ((e : Refusal) → of (Err e) ≡ Err e) → (c : Call) (qs : List Question) (x : After X) → Plain qs → questions f added t own h c ≡ qs → (first_refusal making ≡ None → first_refusal (asked f added t own h c) ≡ None → first_refusal qs ≡ None → Goes c (of x.answer) x) → Goes c (of (guarded m (unless (first_refusal qs) m x)).answer) (guarded m (unless (first_refusal qs) m x))
   step of errs c qs x plain same ok =
       guard of errs c (unless (first_refusal qs) m x)
       (λ ready.
@@ -143,9 +142,9 @@ module _ (f : Face) (laws : Laws f) (added t own : ℕ) (h : List Event) (m : Mo
       by_questions of errs c qs x plain (λ e q. all ∙ q) (λ none. ok ready (all ∙ none) none))
 
   -- an accepted call that changes a slot
-  slot_moved : (c : Call) (s : ℕ) (o : Option (List ℕ)) (r : ℕ) → s < 8 → ((i : ℕ) → (i ≡ s → ⊥) → slot_deed (event c Done) i ≡ AtSlot.leaves) → key_in (event c Done ∷ h) s ≡ o → ((l : ℕ) → lane_deed (event c Done) l ≡ AtLane.leaves) → desk_deed (event c Done) ≡ AtDesk.leaves → Answered f added t own h (event c Done) → settled f h c Done ≡ r → Goes c Done (model.accepted (tt {0}) (with_slot m s o) r)
+  slot_moved : (c : Call) (s : ℕ) (o : Option (List ℕ)) (r : ℕ) → s < 8 → ((i : ℕ) → (i ≡ s → ⊥) → slot_deed (event c (Ok Done)) i ≡ AtSlot.leaves) → key_in (event c (Ok Done) ∷ h) s ≡ o → ((l : ℕ) → lane_deed (event c (Ok Done)) l ≡ AtLane.leaves) → desk_deed (event c (Ok Done)) ≡ AtDesk.leaves → Answered f added t own h (event c (Ok Done)) → settled f h c (Ok Done) ≡ r → Goes c (Ok Done) (model.accepted (tt {0}) (with_slot m s o) r)
   slot_moved c s o r s8 others here ls d right costs =
-      let e : Event = event c Done in
+      let e : Event = event c (Ok Done) in
       record {
         agrees = record {
           keys = keys_set e h m.slots s o s8 others here ag.keys;
@@ -232,10 +231,10 @@ module _ (f : Face) (laws : Laws f) (added t own : ℕ) (h : List Event) (m : Mo
       let k = held_some (key_at m s) r.0 in
       let run : Opened = record { key = unwrap_or (key_at m s) []; bytes = [] } in
       let was : fed_bytes h l ≡ None = ag.lanes.fed l ∙ held_none (fed_of (run_at m l)) w.0 in
-      let here : lane_deed (event c Done) l ≡ AtLane.opens s = at_same (AtLane.opens s) AtLane.leaves l in
+      let here : lane_deed (event c (Ok Done)) l ≡ AtLane.opens s = at_same (AtLane.opens s) AtLane.leaves l in
       let key : key_in h s ≡ Some (unwrap_or (key_at m s) []) = ag.keys.is s ∙ k.1 ∙ ap Some (sym (ap (λ x. unwrap_or x []) k.1)) in
-      lane_moved (tt {0}) c Done l (Some run) 0 0 (ltb-true l 4 p.0) (λ i. refl) (λ i ne. at_other (AtLane.opens s) AtLane.leaves l i ne)
-      (λ o is. subst (λ (x : Opened). Runs (event c Done ∷ h) l x.key x.bytes) (some run o is) (Runs.opened (event c Done) h l s (unwrap_or (key_at m s) []) here key))
+      lane_moved (tt {0}) c (Ok Done) l (Some run) 0 0 (ltb-true l 4 p.0) (λ i. refl) (λ i ne. at_other (AtLane.opens s) AtLane.leaves l i ne)
+      (λ o is. subst (λ (x : Opened). Runs (event c (Ok Done) ∷ h) l x.key x.bytes) (some run o is) (Runs.opened (event c (Ok Done)) h l s (unwrap_or (key_at m s) []) here key))
       (ap (λ x. fed_more x (fed_bytes h l)) here) refl refl refl (record { refusal = sym all; right = λ _. refl }) refl
       (omega (arith, laws.none, ap (held_rounds f) was)))
 
@@ -247,7 +246,7 @@ module _ (f : Face) (laws : Laws f) (added t own : ℕ) (h : List Event) (m : Mo
       let p = passes (ltb l 4) _ NoLane none in
       let q = passes (is_some (fed_of (run_at m l))) _ NotBegun p.1 in
       let k = run_some (run_at m l) q.0 in
-      subst (λ x. Goes (Feed l piece) Done (added_to x)) (sym k.1) (joins k.0 (ltb-true l 4 p.0) k.1 all))
+      subst (λ x. Goes (Feed l piece) (Ok Done) (added_to x)) (sym k.1) (joins k.0 (ltb-true l 4 p.0) k.1 all))
     where
       added_to : Option Opened → After Unit
       added_to x = model.accepted (tt {0}) (with_lane m l (Some (joined x piece.now))) (f.held (length (bytes_of x) + length piece.now) - f.held (length (bytes_of x)))
@@ -258,16 +257,16 @@ module _ (f : Face) (laws : Laws f) (added t own : ℕ) (h : List Event) (m : Mo
       sum : (a b : ℕ) → a ≤ b → 0 + b ≡ a + (b - a)
       sum a b le = omega arith
 
-      joins : (o : Opened) → l < 4 → run_at m l ≡ Some o → first_refusal (asked f added t own h (Feed l piece)) ≡ None → Goes (Feed l piece) Done (added_to (Some o))
+      joins : (o : Opened) → l < 4 → run_at m l ≡ Some o → first_refusal (asked f added t own h (Feed l piece)) ≡ None → Goes (Feed l piece) (Ok Done) (added_to (Some o))
       joins o l4 is all =
-          let e : Event = event (Feed l piece) Done in
+          let e : Event = event (Feed l piece) (Ok Done) in
           let run : Opened = record { key = o.key; bytes = o.bytes ++ piece.now } in
           let n : ℕ = length o.bytes in
           let here : lane_deed e l ≡ AtLane.adds piece.now = at_same (AtLane.adds piece.now) AtLane.leaves l in
           let was : fed_bytes h l ≡ Some n = ag.lanes.fed l ∙ ap fed_of is in
           let new : fed_bytes (e ∷ h) l ≡ Some (n + length piece.now) = ap (λ x. fed_more x (fed_bytes h l)) here ∙ ap (fed_more (AtLane.adds piece.now)) was in
           let long : length (o.bytes ++ piece.now) ≡ n + length piece.now = length-append o.bytes piece.now in
-          lane_moved (tt {0}) (Feed l piece) Done l (Some run) 0 (f.held (n + length piece.now) - f.held n) l4 (λ i. refl) (λ i ne. at_other (AtLane.adds piece.now) AtLane.leaves l i ne)
+          lane_moved (tt {0}) (Feed l piece) (Ok Done) l (Some run) 0 (f.held (n + length piece.now) - f.held n) l4 (λ i. refl) (λ i ne. at_other (AtLane.adds piece.now) AtLane.leaves l i ne)
           (λ o' q. subst (λ (x : Opened). Runs (e ∷ h) l x.key x.bytes) (some run o' q) (Runs.fed e h l o.key o.bytes piece.now here (ag.lanes.each l o is)))
           (new ∙ ap Some (sym long)) refl refl refl (record { refusal = sym all; right = λ _. refl }) refl
           (ap (λ x. 0 + f.held x) long ∙ sum (f.held n) (f.held (n + length piece.now)) (laws.rises n (n + length piece.now) (more n (length piece.now))) ∙ ap (λ x. held_rounds f x + (f.held (n + length piece.now) - f.held n)) (sym was))
@@ -289,7 +288,7 @@ module _ (f : Face) (laws : Laws f) (added t own : ℕ) (h : List Event) (m : Mo
       let q = passes (is_some (fed_of (run_at m l))) None NotBegun p.1 in
       let k = run_some (run_at m l) q.0 in
       let was : fed_bytes h l ≡ Some (length k.0.bytes) = ag.lanes.fed l ∙ ap fed_of k.1 in
-      ends (tt {0}) c Done l k.0 (f.held (length k.0.bytes)) 0 (ltb-true l 4 p.0) k.1 (λ s. refl) (λ i ne. at_other AtLane.frees AtLane.leaves l i ne) (at_same AtLane.frees AtLane.leaves l) refl refl refl (record { refusal = sym all; right = λ _. refl }) (ap (held_rounds f) was) (omega arith))
+      ends (tt {0}) c (Ok Done) l k.0 (f.held (length k.0.bytes)) 0 (ltb-true l 4 p.0) k.1 (λ s. refl) (λ i ne. at_other AtLane.frees AtLane.leaves l i ne) (at_same AtLane.frees AtLane.leaves l) refl refl refl (record { refusal = sym all; right = λ _. refl }) (ap (held_rounds f) was) (omega arith))
 
   -- the tag of an accepted making has t bytes
   ready_tag : first_refusal making ≡ None → within f.row.tag t ≡ true
@@ -311,7 +310,7 @@ module _ (f : Face) (laws : Laws f) (added t own : ℕ) (h : List Event) (m : Mo
         let p = passes (ltb l 4) _ NoLane none in
         let q = passes (is_some (fed_of (run_at m l))) _ NotBegun p.1 in
         let k = run_some (run_at m l) q.0 in
-        subst (λ x. Goes (Finish l room) (Tag place) (closed x)) (sym k.1)
+        subst (λ x. Goes (Finish l room) (Ok (Tag place)) (closed x)) (sym k.1)
         (tagged k.0 (ltb-true l 4 p.0) k.1 ready all (subst (λ x. take (length (f.tag (key_of x) (bytes_of x) m.t)) place ≡ f.tag (key_of x) (bytes_of x) m.t) k.1 there)))
       where
         qs : List Question
@@ -320,13 +319,13 @@ module _ (f : Face) (laws : Laws f) (added t own : ℕ) (h : List Event) (m : Mo
         closed : Option Opened → After Unit
         closed x = model.accepted (tt {0}) (with_lane m l None) (f.whole (length (bytes_of x)) - f.held (length (bytes_of x)))
 
-        tagged : (o : Opened) → l < 4 → run_at m l ≡ Some o → first_refusal making ≡ None → first_refusal (asked f added t own h (Finish l room)) ≡ None → take (length (f.tag o.key o.bytes m.t)) place ≡ f.tag o.key o.bytes m.t → Goes (Finish l room) (Tag place) (closed (Some o))
+        tagged : (o : Opened) → l < 4 → run_at m l ≡ Some o → first_refusal making ≡ None → first_refusal (asked f added t own h (Finish l room)) ≡ None → take (length (f.tag o.key o.bytes m.t)) place ≡ f.tag o.key o.bytes m.t → Goes (Finish l room) (Ok (Tag place)) (closed (Some o))
         tagged o l4 is ready all there =
             let n : ℕ = length o.bytes in
             let was : fed_bytes h l ≡ Some n = ag.lanes.fed l ∙ ap fed_of is in
             let tag : List ℕ = f.tag o.key o.bytes t in
             let first : take t place ≡ tag = subst (λ i. take i place ≡ tag) (sized o.key o.bytes t (ready_tag ready)) (subst (λ i. take (length (f.tag o.key o.bytes i)) place ≡ f.tag o.key o.bytes i) ag.size there) in
-            ends (tt {0}) (Finish l room) (Tag place) l o (f.whole n) (f.whole n - f.held n) l4 is (λ s. refl) (λ i ne. at_other AtLane.frees AtLane.leaves l i ne) (at_same AtLane.frees AtLane.leaves l) refl refl refl
+            ends (tt {0}) (Finish l room) (Ok (Tag place)) l o (f.whole n) (f.whole n - f.held n) l4 is (λ s. refl) (λ i ne. at_other AtLane.frees AtLane.leaves l i ne) (at_same AtLane.frees AtLane.leaves l) refl refl refl
             (record { refusal = sym all; right = λ _. record { key = o.key; bytes = o.bytes; place = place; run = ag.lanes.each l o is; answer = refl; tag = first } })
             (ap (whole_rounds f) was) (whole_sum (f.whole n) (f.held n) (laws.bounded n))
 
@@ -339,7 +338,7 @@ module _ (f : Face) (laws : Laws f) (added t own : ℕ) (h : List Event) (m : Mo
       let p = passes (ltb l 4) _ NoLane none in
       let q = passes (is_some (fed_of (run_at m l))) _ NotBegun p.1 in
       let k = run_some (run_at m l) q.0 in
-      subst (λ x. Goes (Judge l given) (Verdict (said x)) (closed x)) (sym k.1) (judges k.0 (ltb-true l 4 p.0) k.1 all))
+      subst (λ x. Goes (Judge l given) (Ok (Verdict (said x))) (closed x)) (sym k.1) (judges k.0 (ltb-true l 4 p.0) k.1 all))
     where
       said : Option Opened → Bool
       said x = bytes_eq given.now (f.tag (key_of x) (bytes_of x) m.t)
@@ -347,12 +346,12 @@ module _ (f : Face) (laws : Laws f) (added t own : ℕ) (h : List Event) (m : Mo
       closed : Option Opened → After Bool
       closed x = model.accepted (said x) (with_lane m l None) (f.whole (length (bytes_of x)) - f.held (length (bytes_of x)))
 
-      judges : (o : Opened) → l < 4 → run_at m l ≡ Some o → first_refusal (asked f added t own h (Judge l given)) ≡ None → Goes (Judge l given) (Verdict (said (Some o))) (closed (Some o))
+      judges : (o : Opened) → l < 4 → run_at m l ≡ Some o → first_refusal (asked f added t own h (Judge l given)) ≡ None → Goes (Judge l given) (Ok (Verdict (said (Some o)))) (closed (Some o))
       judges o l4 is all =
           let n : ℕ = length o.bytes in
           let was : fed_bytes h l ≡ Some n = ag.lanes.fed l ∙ ap fed_of is in
           let tag : List ℕ = f.tag o.key o.bytes t in
-          ends (said (Some o)) (Judge l given) (Verdict (said (Some o))) l o (f.whole n) (f.whole n - f.held n) l4 is (λ s. refl) (λ i ne. at_other AtLane.frees AtLane.leaves l i ne) (at_same AtLane.frees AtLane.leaves l) refl refl refl
+          ends (said (Some o)) (Judge l given) (Ok (Verdict (said (Some o)))) l o (f.whole n) (f.whole n - f.held n) l4 is (λ s. refl) (λ i ne. at_other AtLane.frees AtLane.leaves l i ne) (at_same AtLane.frees AtLane.leaves l) refl refl refl
           (record {
             refusal = sym all;
             right = λ _. record {
@@ -360,7 +359,7 @@ module _ (f : Face) (laws : Laws f) (added t own : ℕ) (h : List Event) (m : Mo
               bytes = o.bytes;
               verdict = bytes_eq given.now tag;
               run = ag.lanes.each l o is;
-              answer = ap (λ i. Verdict (bytes_eq given.now (f.tag o.key o.bytes i))) ag.size;
+              answer = ap (λ i. Ok (Verdict (bytes_eq given.now (f.tag o.key o.bytes i)))) ag.size;
               decides = bytes_eq-Decides given.now tag;
             };
           })
@@ -378,14 +377,14 @@ module _ (f : Face) (laws : Laws f) (added t own : ℕ) (h : List Event) (m : Mo
 
     sealed_now : first_refusal making ≡ None → s < 8 → is_some (key_at m s) ≡ true → last < 4294967295 → first_refusal (body_questions kind body.now) ≡ None → first_refusal (asked f added t own h sealing) ≡ None →
         take (length (sealed_frame f m s kind body.now address)) place ≡ sealed_frame f m s kind body.now address →
-        Goes sealing (Frame place (8 + length body.now + m.t)) (model.accepted (8 + length body.now + m.t) (with_desk m (desk_sealed m.desk s)) (f.whole (8 + length body.now)))
+        Goes sealing (Ok (framed place (8 + length body.now + m.t))) (model.accepted (8 + length body.now + m.t) (with_desk m (desk_sealed m.desk s)) (f.whole (8 + length body.now)))
     sealed_now ready s8 has low right all there =
         let k = held_some (key_at m s) has in
         let key : List ℕ = k.0 in
         let hd = header_for s kind address (last + 1) body.now in
         let fits = (sealable s kind address (last + 1) body.now s8 address16 (omega (arith, low)) right).fits in
         let back : header_of place ≡ hd = header_first hd body.now (f.tag (unwrap_or (key_at m s) []) (laid last) m.t) place fits there in
-        let a : Answer = Frame place (8 + length body.now + m.t) in
+        let a : Answer = Ok (framed place (8 + length body.now + m.t)) in
         let e : Event = event sealing a in
         let was : newest (numbers_sealed h s) ≡ last = ag.books.sealed.newest s in
         let keyed : take (length (laid last ++ f.tag key (laid last) m.t)) place ≡ laid last ++ f.tag key (laid last) m.t =
@@ -403,7 +402,7 @@ module _ (f : Face) (laws : Laws f) (added t own : ℕ) (h : List Event) (m : Mo
             key = key;
             place = place;
             held = ag.keys.is s ∙ k.1;
-            answer = ap (λ i. Frame place (8 + length body.now + i)) ag.size;
+            answer = ap (λ i. Ok (framed place (8 + length body.now + i))) ag.size;
             frame = subst (λ (x : ℕ). take (8 + length body.now + t) place ≡ laid x ++ f.tag key (laid x) t) (sym was) cut;
           };
         })
@@ -475,7 +474,7 @@ module _ (f : Face) (laws : Laws f) (added t own : ℕ) (h : List Event) (m : Mo
     abbrev tag_now : Bool
     tag_now = bytes_eq (tag_in frame) (f.tag (unwrap_or (key_at m slot) []) (signed_part frame) m.t)
 
-    taken_right : Tried → (b : Bool) → tag_now ≡ b → (a : Answer) → accepted a ≡ b → (accepted a ≡ true → a ≡ Given (order_of frame)) → Taken f added t own h frame a
+    taken_right : Tried → (b : Bool) → tag_now ≡ b → (a : Answer) → accepted a ≡ b → (accepted a ≡ true → a ≡ Ok (Given (order_of frame))) → Taken f added t own h frame a
     taken_right y b q a is given =
         let same : bytes_eq (tag_in frame) (f.tag y.key (signed_part frame) t) ≡ b =
         ap (λ i. bytes_eq (tag_in frame) (f.tag y.key (signed_part frame) i)) (sym ag.size) ∙ ap (λ i. bytes_eq (tag_in frame) (f.tag (unwrap_or i []) (signed_part frame) m.t)) (sym y.held) ∙ q in
@@ -490,13 +489,13 @@ module _ (f : Face) (laws : Laws f) (added t own : ℕ) (h : List Event) (m : Mo
     tries : Tried → (b : Bool) → tag_now ≡ b → first_refusal (asked f added t own h (Take ref)) ≡ cond b None (Some WrongTag) → Goes (Take ref) (fields_of (tried f m frame b).answer) (tried f m frame b)
     tries y true q all =
         let o : Fields = order_of frame in
-        desk_moved o (Take ref) (Given o) (desk_taken m.desk o) (f.whole (8 + (header_of frame).size)) (λ i. refl) (λ l. refl)
-        (books_taken (event (Take ref) (Given o)) h m.desk o (slot_low frame) y.up refl refl refl (eq-eqb slot slot refl) (λ i ne. ne_eqb slot i (λ x. ne (sym x))) ag.books)
-        (record { refusal = sym all; right = λ _. taken_right y true q (Given o) refl (λ _. refl) })
+        desk_moved o (Take ref) (Ok (Given o)) (desk_taken m.desk o) (f.whole (8 + (header_of frame).size)) (λ i. refl) (λ l. refl)
+        (books_taken (event (Take ref) (Ok (Given o))) h m.desk o (slot_low frame) y.up refl refl refl (eq-eqb slot slot refl) (λ i ne. ne_eqb slot i (λ x. ne (sym x))) ag.books)
+        (record { refusal = sym all; right = λ _. taken_right y true q (Ok (Given o)) refl (λ _. refl) })
         refl
     tries y false q all =
         still (Take ref) WrongTag (f.whole (8 + (header_of frame).size)) (Err WrongTag)
-        (record { refusal = sym all; right = λ _. taken_right y false q (Refused WrongTag) refl (λ w. absurd (both_ways _ refl w)) })
+        (record { refusal = sym all; right = λ _. taken_right y false q (Err WrongTag) refl (λ w. absurd (both_ways _ refl w)) })
         refl
 
     take_goes : Goes (Take ref) (fields_of (guarded m (take_frame f m frame)).answer) (guarded m (take_frame f m frame))
@@ -518,14 +517,14 @@ module _ (f : Face) (laws : Laws f) (added t own : ℕ) (h : List Event) (m : Mo
   carry_goes o =
       step done_of (λ e. refl) (Carry o) (end_q m.desk.hand o) (model.accepted (tt {0}) (with_desk m (desk_carried m.desk o)) 0) (refl, tt) (ap (λ x. end_q x o) ag.books.held)
       (λ ready all none.
-      desk_moved (tt {0}) (Carry o) Done (desk_carried m.desk o) 0 (λ i. refl) (λ l. refl) (books_carried (event (Carry o) Done) h m.desk o refl refl refl ag.books) (record { refusal = sym all; right = λ _. refl }) refl)
+      desk_moved (tt {0}) (Carry o) (Ok Done) (desk_carried m.desk o) 0 (λ i. refl) (λ l. refl) (books_carried (event (Carry o) (Ok Done)) h m.desk o refl refl refl ag.books) (record { refusal = sym all; right = λ _. refl }) refl)
 
   decline_goes : (o : Fields) → Goes (Decline o) (done_of (guarded m (decline f m o)).answer) (guarded m (decline f m o))
   unfolding decline
   decline_goes o =
       step done_of (λ e. refl) (Decline o) (end_q m.desk.hand o) (model.accepted (tt {0}) (with_desk m (desk_declined m.desk)) 0) (refl, tt) (ap (λ x. end_q x o) ag.books.held)
       (λ ready all none.
-      desk_moved (tt {0}) (Decline o) Done (desk_declined m.desk) 0 (λ i. refl) (λ l. refl) (books_declined (event (Decline o) Done) h m.desk refl refl refl ag.books) (record { refusal = sym all; right = λ _. refl }) refl)
+      desk_moved (tt {0}) (Decline o) (Ok Done) (desk_declined m.desk) 0 (λ i. refl) (λ l. refl) (books_declined (event (Decline o) (Ok Done)) h m.desk refl refl refl ag.books) (record { refusal = sym all; right = λ _. refl }) refl)
 
   -- the same of a call as a value
   pub record Went (c : Call) (x : Act) : Type 0 where

@@ -3,7 +3,7 @@ use Rattle.std.proofs.Common.{◌≡◌, ℕ, ◌+◌, Bool, true, false, cond, 
 use Rattle.mac.specs.Face.{Face}
 use Rattle.frame.specs.Layout.{header_of}
 use Rattle.node.specs.declared.replay.Call.{Call}
-use Rattle.node.specs.declared.replay.Answer.{Answer}
+use Rattle.node.specs.Replies.{Answer}
 use Rattle.history.specs.History.{Event, AtLane, at_lane, lane_deed, accepted, compared, answer_number, fed_more, fed_bytes}
 use Rattle.history.specs.Law.{Always, Answered, Right, cost, settled, all_settled, open_rounds, whole_rounds, held_rounds}
 use Rattle.history.specs.Alike.{Alike, AlikeCalls}

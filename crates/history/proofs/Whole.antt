@@ -7,12 +7,12 @@ use Rattle.mac.specs.Face.{Face}
 use Rattle.node.specs.declared.Node.{Node}
 use Rattle.node.specs.declared.desk.Desk.{Desk}
 use Rattle.node.specs.declared.replay.Call.{Call}
-use Rattle.node.specs.declared.replay.Answer.{Answer}
 use Rattle.node.specs.declared.replay.Report.{Report}
 use Rattle.node.specs.Model.{Opened, fed_of}
 use Rattle.node.specs.Calls.{new}
 use Rattle.node.specs.Replaying.{report_of}
 use Rattle.node.specs.Stands.{Stands, in_hand}
+use Rattle.node.specs.Replies.{Answer}
 use Rattle.history.specs.History.{Event, event, events, history}
 use Rattle.history.specs.Law.{Law, report_at, cost}
 use Rattle.history.specs.Keeps.{Keeps}

@@ -5,8 +5,8 @@ use Rattle.std.specs.List.{AllZip}
 use Rattle.node.specs.declared.desk.Fields.{Fields}
 use Rattle.node.specs.declared.replay.Call.{Call}
 use Rattle.node.specs.declared.replay.Call.TheVariants.{Install, Clear, Open, Feed, Finish, Judge, Drop, Seal, Take, Carry, Decline}
-use Rattle.node.specs.declared.replay.Answer.{Answer}
 use Rattle.node.specs.declared.replay.Report.{Report}
+use Rattle.node.specs.Replies.{Answer}
 use Rattle.history.specs.History.{Event, history, answer_number}
 use Rattle.history.specs.Law.{report_at}
 

@@ -1,13 +1,13 @@
 -- What a list of calls and answers says of the slots, the lanes and the orders of a node. A history has the latest event first. Assumes nothing.
-use Rattle.std.specs.Prelude.{◌≡◌, ℕ, ◌+◌, Bool, cond, ◌||◌, List, [], ◌∷◌, ◌++◌, reverse, length, Some, None, Option, ◌==◌}
+use Rattle.std.specs.Prelude.{◌≡◌, ℕ, ◌+◌, Bool, cond, ◌||◌, List, [], ◌∷◌, ◌++◌, reverse, length, Some, None, Option, Ok, Err, ◌==◌}
 use Rattle.refusals.specs.Numbers.{number}
 use Rattle.refusals.specs.declared.Refusal.{Refusal}
 use Rattle.frame.specs.Layout.{header_of}
 use Rattle.node.specs.declared.desk.Fields.{Fields}
 use Rattle.node.specs.declared.replay.Call.{Call}
 use Rattle.node.specs.declared.replay.Call.TheVariants.{Install, Clear, Open, Feed, Finish, Judge, Drop, Seal, Take, Carry, Decline}
-use Rattle.node.specs.declared.replay.Answer.{Answer}
-use Rattle.node.specs.declared.replay.Answer.TheVariants.{Refused, Done, Tag, Verdict, Frame, Given}
+use Rattle.node.specs.declared.replay.Outcome.TheVariants.{Done, Tag, Verdict, Frame, Given}
+use Rattle.node.specs.Replies.{Answer}
 
 pub record Event : Type 0 where
   pub call : Call
@@ -27,12 +27,8 @@ history calls answers = reverse (events calls answers)
 
 -- why a call was refused, if it was
 abbrev pub refusal_in : Answer → Option Refusal
-refusal_in (Refused e) = Some e
-refusal_in Done = None
-refusal_in (Tag place) = None
-refusal_in (Verdict v) = None
-refusal_in (Frame place n) = None
-refusal_in (Given o) = None
+refusal_in (Ok x) = None
+refusal_in (Err e) = Some e
 
 -- an answer's number: 0, or that of the question that refused
 abbrev pub number_of : Option Refusal → ℕ
@@ -148,12 +144,12 @@ fed_bytes (e ∷ past) l = fed_more (lane_deed e l) (fed_bytes past l)
 
 -- the order that an answer gives
 abbrev pub order_in : Answer → Option Fields
-order_in (Refused e) = None
-order_in Done = None
-order_in (Tag place) = None
-order_in (Verdict v) = None
-order_in (Frame place n) = None
-order_in (Given o) = Some o
+order_in (Err e) = None
+order_in (Ok Done) = None
+order_in (Ok (Tag place)) = None
+order_in (Ok (Verdict v)) = None
+order_in (Ok (Frame f)) = None
+order_in (Ok (Given o)) = Some o
 
 -- the order in hand: that of the last take accepted, until a carry or a decline is accepted
 abbrev pub order_after : AtDesk → Option Fields → Option Fields → Option Fields
@@ -177,12 +173,12 @@ numbers_taken (e ∷ past) s = number_given (order_in e.answer) s ++ numbers_tak
 
 -- the numbers that stand in the frames written for slot s, the latest first
 abbrev pub frame_in : Answer → Option (List ℕ)
-frame_in (Refused e) = None
-frame_in Done = None
-frame_in (Tag place) = None
-frame_in (Verdict v) = None
-frame_in (Frame place n) = Some place
-frame_in (Given o) = None
+frame_in (Err e) = None
+frame_in (Ok Done) = None
+frame_in (Ok (Tag place)) = None
+frame_in (Ok (Verdict v)) = None
+frame_in (Ok (Frame f)) = Some f.place
+frame_in (Ok (Given o)) = None
 
 abbrev pub number_written : Option (List ℕ) → ℕ → List ℕ
 number_written None s = []

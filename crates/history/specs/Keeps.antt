@@ -7,10 +7,10 @@ use Rattle.mac.specs.Face.{Face}
 use Rattle.node.specs.declared.Node.{Node}
 use Rattle.node.specs.declared.desk.Desk.{Desk}
 use Rattle.node.specs.declared.replay.Call.{Call}
-use Rattle.node.specs.declared.replay.Answer.{Answer}
 use Rattle.node.specs.Asking.{making_q}
 use Rattle.node.specs.Model.{Model, Opened, fed_of}
 use Rattle.node.specs.Stands.{Stands}
+use Rattle.node.specs.Replies.{Answer}
 use Rattle.history.specs.History.{Event, event, key_in, Runs, fed_bytes, order_held, numbers_taken, numbers_sealed, newest, count, is_take, is_carry, is_decline, level_in}
 use Rattle.history.specs.Law.{Always, Answered, Rising, cost}
 

@@ -1,5 +1,5 @@
 -- What any list of calls on a new node owes, by its history alone. Assumes nothing.
-use Rattle.std.specs.Prelude.{◌≡◌, ℕ, ◌+◌, ◌<◌, ◌≤◌, min, Bool, true, cond, List, [], ◌∷◌, ◌++◌, length, take, Some, None, Decides, Option, slice_index_or}
+use Rattle.std.specs.Prelude.{◌≡◌, ℕ, ◌+◌, ◌<◌, ◌≤◌, min, Bool, true, cond, List, [], ◌∷◌, ◌++◌, length, take, Some, None, Ok, Decides, Option, slice_index_or}
 use Rattle.std.specs.Option.{unwrap_or}
 use Rattle.std.specs.List.{AllByRecursion}
 use Rattle.std.specs.Str.{bytes_eq}
@@ -11,12 +11,12 @@ use Rattle.frame.specs.Layout.{header_of, bytes_of_header, signed_part, tag_in}
 use Rattle.frame.specs.Sealing.{header_for}
 use Rattle.node.specs.declared.replay.Call.{Call}
 use Rattle.node.specs.declared.replay.Call.TheVariants.{Install, Clear, Open, Feed, Finish, Judge, Drop, Seal, Take, Carry, Decline}
-use Rattle.node.specs.declared.replay.Answer.{Answer}
-use Rattle.node.specs.declared.replay.Answer.TheVariants.{Done, Tag, Verdict, Frame, Given}
+use Rattle.node.specs.declared.replay.Outcome.TheVariants.{Done, Tag, Verdict, Given}
 use Rattle.node.specs.declared.replay.Report.{Report}
 use Rattle.node.specs.Asking.{making_q, install_q, clear_q, open_q, feed_q, drop_q, finish_q, judge_q, seal_q, frame_q, end_q}
 use Rattle.node.specs.Calls.{order_of}
 use Rattle.node.specs.Stands.{in_hand}
+use Rattle.node.specs.Replies.{Answer, framed}
 use Rattle.history.specs.History.{Event, history, refusal_in, accepted, compared, key_in, Runs, fed_bytes, order_held, numbers_taken, numbers_sealed, newest, count, is_take, is_carry, is_decline, level_in}
 
 -- P of each event and what came before it
@@ -64,7 +64,7 @@ module _ (f : Face) (added t own : ℕ) where
     pub bytes : List ℕ
     pub place : List ℕ
     pub run : Runs past l key bytes
-    pub answer : a ≡ Tag place
+    pub answer : a ≡ Ok (Tag place)
     pub tag : take t place ≡ f.tag key bytes t
 
   -- a yes exactly where the bytes given are the tag of the run
@@ -73,7 +73,7 @@ module _ (f : Face) (added t own : ℕ) where
     pub bytes : List ℕ
     pub verdict : Bool
     pub run : Runs past l key bytes
-    pub answer : a ≡ Verdict verdict
+    pub answer : a ≡ Ok (Verdict verdict)
     pub decides : Decides verdict (given ≡ f.tag key bytes t)
 
   -- a header with the number after the last that was sealed in the slot, the body, and the tag of both under the slot's key
@@ -84,7 +84,7 @@ module _ (f : Face) (added t own : ℕ) where
     pub key : List ℕ
     pub place : List ℕ
     pub held : key_in past s ≡ Some key
-    pub answer : a ≡ Frame place (8 + length body + t)
+    pub answer : a ≡ Ok (framed place (8 + length body + t))
     pub frame : take (8 + length body + t) place ≡ front past s kind body address ++ f.tag key (front past s kind body address) t
 
   -- an order, of the numbers in the frame, exactly where the frame's tag is that of its header and body under the slot's key
@@ -93,21 +93,21 @@ module _ (f : Face) (added t own : ℕ) where
     pub held : key_in past (header_of frame).slot ≡ Some key
     pub long : length frame ≡ 8 + (header_of frame).size + t
     pub decides : Decides (accepted a) (tag_in frame ≡ f.tag key (signed_part frame) t)
-    pub answer : accepted a ≡ true → a ≡ Given (order_of frame)
+    pub answer : accepted a ≡ true → a ≡ Ok (Given (order_of frame))
 
   -- what an accepted call answers, and a take that comes to compare its tag
   abbrev pub Right : List Event → Call → Answer → Type 0
-  Right past (Install s key) a = accepted a ≡ true → a ≡ Done
-  Right past (Clear s) a = accepted a ≡ true → a ≡ Done
-  Right past (Open l s) a = accepted a ≡ true → a ≡ Done
-  Right past (Feed l piece) a = accepted a ≡ true → a ≡ Done
+  Right past (Install s key) a = accepted a ≡ true → a ≡ Ok Done
+  Right past (Clear s) a = accepted a ≡ true → a ≡ Ok Done
+  Right past (Open l s) a = accepted a ≡ true → a ≡ Ok Done
+  Right past (Feed l piece) a = accepted a ≡ true → a ≡ Ok Done
   Right past (Finish l room) a = accepted a ≡ true → Written past l a
   Right past (Judge l given) a = accepted a ≡ true → Judged past l given.now a
-  Right past (Drop l) a = accepted a ≡ true → a ≡ Done
+  Right past (Drop l) a = accepted a ≡ true → a ≡ Ok Done
   Right past (Seal s kind body address room) a = accepted a ≡ true → Framed past s kind body.now address a
   Right past (Take frame) a = compared a ≡ true → Taken past frame.now a
-  Right past (Carry o) a = accepted a ≡ true → a ≡ Done
-  Right past (Decline o) a = accepted a ≡ true → a ≡ Done
+  Right past (Carry o) a = accepted a ≡ true → a ≡ Ok Done
+  Right past (Decline o) a = accepted a ≡ true → a ≡ Ok Done
 
   -- the first no is the refusal, and where there is none the call is accepted
   pub record Answered (past : List Event) (e : Event) : Type 0 where

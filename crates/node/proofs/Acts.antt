@@ -4,11 +4,10 @@ use Rattle.refusals.specs.declared.Refusal.{Refusal}
 use Rattle.mac.specs.Face.{Face}
 use Rattle.node.specs.declared.Node.{Node}
 use Rattle.node.specs.declared.replay.Call.{Call}
-use Rattle.node.specs.declared.replay.Answer.{Answer}
 use Rattle.node.specs.Model.{Model, After}
 use Rattle.node.specs.Calls.{written}
 use Rattle.node.specs.Stands.{Told}
-use Rattle.node.specs.Replies.{tag_of, frame_of}
+use Rattle.node.specs.Replies.{Answer, tag_of, frame_of}
 use Rattle.node.specs.Replaying.{act, performed, Acted}
 
 -- a node that told what its model tells, the result given as an answer

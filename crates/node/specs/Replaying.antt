@@ -1,5 +1,5 @@
 -- What a call given as a value answers and makes of what the node stands for. Assumes nothing.
-use Rattle.std.specs.Prelude.{◌≡◌, ℕ, ◌<◌, min, List, ◌++◌, length, take, drop, replicate, Ok, Err, Result}
+use Rattle.std.specs.Prelude.{◌≡◌, ℕ, ◌<◌, min, List, ◌++◌, length, drop, replicate, Result}
 use Rattle.hash.specs.Meter.{after}
 use Rattle.refusals.specs.declared.Refusal.{Refusal}
 use Rattle.mac.specs.Face.{Face}
@@ -7,12 +7,11 @@ use Rattle.node.specs.declared.Node.{Node}
 use Rattle.node.specs.declared.desk.Desk.{Desk}
 use Rattle.node.specs.declared.replay.Call.{Call}
 use Rattle.node.specs.declared.replay.Call.TheVariants.{Install, Clear, Open, Feed, Finish, Judge, Drop, Seal, Take, Carry, Decline}
-use Rattle.node.specs.declared.replay.Answer.{Answer}
 use Rattle.node.specs.declared.replay.Report.{Report}
 use Rattle.node.specs.Model.{Model, After}
 use Rattle.node.specs.Calls.{guarded, install, clear, open_lane, feed, finish, tag_at, judge, drop_lane, seal, sealed_frame, take_frame, carry, decline}
 use Rattle.node.specs.Stands.{Stands}
-use Rattle.node.specs.Replies.{done_of, tag_of, verdict_of, frame_of, fields_of}
+use Rattle.node.specs.Replies.{Answer, done_of, tag_of, verdict_of, frame_of, fields_of}
 
 -- an answer, what the node then stands for, and the rounds that the call made
 pub record Act : Type 0 where
@@ -26,11 +25,6 @@ act of x = record { answer = of x.answer; model = x.model; rounds = x.rounds }
 -- bytes that stand first in a place of n zeros
 abbrev pub placed : ℕ → List ℕ → List ℕ
 placed n bytes = bytes ++ drop (length bytes) (replicate n 0)
-
--- where a result was not refused, the bytes stand first in the place
-abbrev pub Begins : {X : Type 0} → Result X Refusal → List ℕ → List ℕ → Type 0
-Begins (Ok x) bytes place = take (length bytes) place ≡ bytes
-Begins (Err e) bytes place = Unit {0}
 
 abbrev pub performed : Face → Model → Call → Act
 performed f m (Install slot key) = act done_of (guarded m (install f m slot key.now))

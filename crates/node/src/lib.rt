@@ -16,7 +16,7 @@ use hash::Hash;
 use mac::{Algorithm, KeyRecord, Run, free_run};
 pub use order::Order;
 use refusals::Refusal;
-pub use replay::{Answer, Call, Replay, Report};
+pub use replay::{Answer, Call, Outcome, Replay, Report, SealedFrame};
 use std::marker::PhantomData;
 
 mod books;

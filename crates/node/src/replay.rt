@@ -1,13 +1,12 @@
 // The eleven calls as values, with an answer for each, for a host that keeps the list of calls and answers as its book of
 // orders: orders come and go as plain numbers here. A node under replay gives out no order token and takes none, so this is
 // no way to let one lapse.
-ghost use Rattle.std.specs.Prelude.{◌≡◌, ℕ, min, List};
+ghost use Rattle.std.specs.Prelude.{◌≡◌, ℕ, min, List, take};
 ghost use Rattle.mac.specs.Promises.{wiped};
 ghost use Rattle.node.specs.Model.{Model};
 ghost use Rattle.node.specs.Calls.{new, guarded, finish, tag_at, seal, sealed_frame, written};
 ghost use Rattle.node.specs.Stands.{Stands, Obeys};
-ghost use Rattle.node.specs.Replies.{done_of, tag_of, verdict_of, frame_of, order_from, end_of};
-ghost use Rattle.node.specs.Replaying.{Begins, Performs, Narrow, report_of};
+ghost use Rattle.node.specs.Replaying.{Performs, Narrow, report_of};
 
 use crate::Node;
 use crate::desk::Fields;
@@ -64,15 +63,33 @@ pub enum Call<'a> {
     },
 }
 
-// What came of a call. A tag stands first in its place, and so does a frame, of the length given.
+// What came of a call that was accepted. A tag stands first in its place.
 #[derive(Clone, Copy)]
-pub enum Answer {
-    Refused(Refusal),
+pub enum Outcome {
     Done,
     Tag([u8; 32]),
     Verdict(bool),
-    Frame([u8; 295], usize),
+    Frame(SealedFrame),
     Given(Fields),
+}
+
+// A call's answer: what came of it, or why it was refused.
+pub type Answer = Result<Outcome, Refusal>;
+
+// A frame of the length given, first in a place for the longest.
+#[derive(Clone, Copy)]
+pub struct SealedFrame {
+    place: [u8; 295],
+    length: usize,
+}
+
+impl SealedFrame {
+    // The frame alone.
+    pub fn bytes(&self) -> &[u8]
+        ensures { result.now ≡ take self.now.length self.now.place }
+    {
+        &self.place[..self.length.min(295)]
+    }
 }
 
 // What a node has come to: its meter, the lamp's level, and the orders counted.
@@ -85,68 +102,13 @@ pub struct Report {
     pub declined: u64,
 }
 
-fn done(r: Result<(), Refusal>) -> Answer
-    ensures { result ≡ done_of r }
+// Why an order was not ended. The order that comes back is spent: the list of calls and answers is the book of orders.
+fn spend(refused: (Refusal, Order)) -> Refusal
+    ensures { result ≡ refused.0 }
 {
-    match r {
-        Ok(()) => Answer::Done,
-        Err(e) => Answer::Refused(e),
-    }
-}
-
-fn tagged(r: Result<(), Refusal>, out: [u8; 32]) -> Answer
-    ensures { result ≡ tag_of out r }
-{
-    match r {
-        Ok(()) => Answer::Tag(out),
-        Err(e) => Answer::Refused(e),
-    }
-}
-
-fn judged(r: Result<bool, Refusal>) -> Answer
-    ensures { result ≡ verdict_of r }
-{
-    match r {
-        Ok(v) => Answer::Verdict(v),
-        Err(e) => Answer::Refused(e),
-    }
-}
-
-fn framed(r: Result<usize, Refusal>, out: [u8; 295]) -> Answer
-    ensures { result ≡ frame_of out r }
-{
-    match r {
-        Ok(n) => Answer::Frame(out, n),
-        Err(e) => Answer::Refused(e),
-    }
-}
-
-// The order as numbers: the list of calls and answers is the book of orders.
-fn noted(r: Result<Order, Refusal>) -> Answer
-    ensures { result ≡ order_from r }
-{
-    match r {
-        Ok(o) => Answer::Given(o.into_fields()),
-        Err(e) => Answer::Refused(e),
-    }
-}
-
-fn ended(r: Result<(), (Refusal, Order)>) -> Answer
-    ensures { result ≡ end_of r }
-{
-    match r {
-        Ok(()) => Answer::Done,
-        Err((e, back)) => {
-            let _ = back.into_fields();
-            Answer::Refused(e)
-        }
-    }
-}
-
-fn capped(room: usize, most: usize) -> usize
-    ensures { result ≡ min room most }
-{
-    if room < most { room } else { most }
+    let (refusal, order) = refused;
+    let _ = order.into_fields();
+    refusal
 }
 
 // Finishes a lane into the first `room` bytes of the place, or into all of it.
@@ -158,11 +120,9 @@ fn finish_at<H: Hash, A: Algorithm<H>>(
     work: &mut [u8; 64],
 ) -> Result<(), Refusal>
     ensures obeys { Obeys H.Hash.next A.Algorithm.face node.old node.new result (λ m. guarded m (finish A.Algorithm.face m lane (min room 32))) }
-    ensures written { (m : Model) → Stands H.Hash.next A.Algorithm.face node.old m → Begins result (tag_at A.Algorithm.face m lane) out.new }
     ensures place { (m : Model) → Stands H.Hash.next A.Algorithm.face node.old m → out.new ≡ written A.Algorithm.face m result (tag_at A.Algorithm.face m lane) out.old }
 {
-    let most = capped(room, 32);
-    node.finish(lane, &mut out[0..most], work)
+    node.finish(lane, &mut out[..room.min(32)], work)
 }
 
 // Seals a frame into the first `room` bytes of the place, or into all of it.
@@ -177,11 +137,9 @@ fn seal_at<H: Hash, A: Algorithm<H>>(
     work: &mut [u8; 64],
 ) -> Result<usize, Refusal>
     ensures obeys { Obeys H.Hash.next A.Algorithm.face node.old node.new result (λ m. guarded m (seal A.Algorithm.face m slot kind body.now (min room 295))) }
-    ensures written { (m : Model) → Stands H.Hash.next A.Algorithm.face node.old m → Begins result (sealed_frame A.Algorithm.face m slot kind body.now address) out.new }
     ensures place { (m : Model) → Stands H.Hash.next A.Algorithm.face node.old m → out.new ≡ written A.Algorithm.face m result (sealed_frame A.Algorithm.face m slot kind body.now address) out.old }
 {
-    let most = capped(room, 295);
-    node.seal(slot, kind, body, address, &mut out[0..most], work)
+    node.seal(slot, kind, body, address, &mut out[..room.min(295)], work)
 }
 
 // One call on a node, with its answer.
@@ -194,17 +152,16 @@ fn perform_on<H: Hash, A: Algorithm<H>>(
     ensures narrow { Narrow c.now }
 {
     match c {
-        Call::Install { slot, key } => done(node.install(*slot, key, work)),
-        Call::Clear { slot } => done(node.clear(*slot)),
-        Call::Open { lane, slot } => done(node.open(*lane, *slot)),
-        Call::Feed { lane, piece } => done(node.feed(*lane, piece)),
+        Call::Install { slot, key } => node.install(*slot, key, work).map(|()| Outcome::Done),
+        Call::Clear { slot } => node.clear(*slot).map(|()| Outcome::Done),
+        Call::Open { lane, slot } => node.open(*lane, *slot).map(|()| Outcome::Done),
+        Call::Feed { lane, piece } => node.feed(*lane, piece).map(|()| Outcome::Done),
         Call::Finish { lane, room } => {
             let mut out = [0; 32];
-            let r = finish_at(node, *lane, *room, &mut out, work);
-            tagged(r, out)
+            finish_at(node, *lane, *room, &mut out, work).map(|()| Outcome::Tag(out))
         }
-        Call::Judge { lane, tag } => judged(node.judge(*lane, tag, work)),
-        Call::Drop { lane } => done(node.drop_lane(*lane)),
+        Call::Judge { lane, tag } => node.judge(*lane, tag, work).map(Outcome::Verdict),
+        Call::Drop { lane } => node.drop_lane(*lane).map(|()| Outcome::Done),
         Call::Seal {
             slot,
             kind,
@@ -212,13 +169,25 @@ fn perform_on<H: Hash, A: Algorithm<H>>(
             address,
             room,
         } => {
-            let mut out = [0; 295];
-            let r = seal_at(node, *slot, *kind, body, *address, *room, &mut out, work);
-            framed(r, out)
+            let mut place = [0; 295];
+            seal_at(node, *slot, *kind, body, *address, *room, &mut place, work).map(
+                |length| Outcome::Frame(SealedFrame { place, length }),
+            )
         }
-        Call::Take { frame } => noted(node.take(frame, work)),
-        Call::Carry { order } => ended(node.carry(Order { fields: *order })),
-        Call::Decline { order } => ended(node.decline(Order { fields: *order })),
+        Call::Take { frame } => {
+            node.take(frame, work)
+                .map(|order| Outcome::Given(order.into_fields()))
+        }
+        Call::Carry { order } => {
+            node.carry(Order { fields: *order })
+                .map(|()| Outcome::Done)
+                .map_err(spend)
+        }
+        Call::Decline { order } => {
+            node.decline(Order { fields: *order })
+                .map(|()| Outcome::Done)
+                .map_err(spend)
+        }
     }
 }
 

@@ -5,9 +5,9 @@ use Rattle.std.proofs.lemmas.List.{drop_more, drop_all, drop-map, take_rest}
 use Rattle.tags.specs.Kinds.{meaning_of, face_of}
 use Rattle.tags.specs.declared.AlgorithmKind.{AlgorithmKind}
 use Rattle.tags.specs.declared.HashKind.{HashKind}
-use Rattle.node.specs.declared.replay.Answer.{Answer}
 use Rattle.node.specs.declared.replay.Call.{Call}
 use Rattle.node.specs.declared.replay.Report.{Report}
+use Rattle.node.specs.Replies.{Answer}
 use Rattle.history.specs.Law.{Logged}
 use Rattle.scripts.specs.declared.command.Command.{Command}
 use Rattle.scripts.specs.declared.making.Making.{Making}

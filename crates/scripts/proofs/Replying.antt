@@ -3,8 +3,8 @@ use Rattle.std.proofs.Common.{◌≡◌, ℕ, ◌+◌, ◌<◌, ◌≤◌, List,
 use Rattle.std.specs.Option.{option_map}
 use Rattle.std.proofs.lemmas.List.{append-nil, drop_more, drop_all}
 use Rattle.refusals.specs.declared.Refusal.{Refusal}
-use Rattle.node.specs.declared.replay.Answer.{Answer}
 use Rattle.node.specs.declared.replay.Report.{Report}
+use Rattle.node.specs.Replies.{Answer}
 use Rattle.scripts.specs.declared.command.Command.{Command}
 use Rattle.scripts.specs.declared.stage.Stage.{Stage}
 use Rattle.scripts.specs.declared.stage.Stage.TheVariants.{Waiting, Refusing, Working}

@@ -1,10 +1,10 @@
 -- What is replied to each line of a script. Assumes nothing.
-use Rattle.std.specs.Prelude.{ℕ, ◌+◌, cond, List, [], ◌∷◌, ◌++◌, take, Some, None, codes, decimal, Option, slice_index, slice_index_or}
+use Rattle.std.specs.Prelude.{ℕ, ◌+◌, cond, List, [], ◌∷◌, ◌++◌, take, Some, None, Ok, Err, codes, decimal, Option, slice_index, slice_index_or}
 use Rattle.refusals.specs.Numbers.{number}
 use Rattle.refusals.specs.declared.Refusal.{Refusal}
-use Rattle.node.specs.declared.replay.Answer.{Answer}
-use Rattle.node.specs.declared.replay.Answer.TheVariants.{Refused, Done, Tag, Verdict, Frame, Given}
+use Rattle.node.specs.declared.replay.Outcome.TheVariants.{Done, Tag, Verdict, Frame, Given}
 use Rattle.node.specs.declared.replay.Report.{Report}
+use Rattle.node.specs.Replies.{Answer}
 use Rattle.history.specs.Law.{report_at}
 use Rattle.text.specs.Hex.{hex_of}
 use Rattle.scripts.specs.declared.stage.Stage.{Stage}
@@ -25,12 +25,12 @@ refused e = codes "no" ++ spaced (number e ∷ [])
 
 -- the answer to a call, where tags have t bytes
 abbrev pub answered : ℕ → Answer → List ℕ
-answered t (Refused e) = refused e
-answered t Done = codes "ok"
-answered t (Tag place) = codes "tag " ++ hex_of (take t place)
-answered t (Verdict v) = cond v (codes "right") (codes "wrong")
-answered t (Frame place n) = codes "frame " ++ hex_of (take n place)
-answered t (Given o) = codes "order" ++ spaced (numbers_of o)
+answered t (Err e) = refused e
+answered t (Ok Done) = codes "ok"
+answered t (Ok (Tag place)) = codes "tag " ++ hex_of (take t place)
+answered t (Ok (Verdict v)) = cond v (codes "right") (codes "wrong")
+answered t (Ok (Frame f)) = codes "frame " ++ hex_of (take f.length f.place)
+answered t (Ok (Given o)) = codes "order" ++ spaced (numbers_of o)
 
 abbrev pub metered : Report → List ℕ
 metered r = decimal r.reading
@@ -68,7 +68,7 @@ module _ (answers : List Answer) (reports : List Report) where
   -- there is a node with tags of t bytes, after k calls
   abbrev pub while_working : ℕ → ℕ → Verb → List ℕ
   while_working t k Node = codes "?"
-  while_working t k (Calling d) = answered t (slice_index_or answers k Done)
+  while_working t k (Calling d) = answered t (slice_index_or answers k (Ok Done))
   while_working t k Meter = metered (report_at reports k)
   while_working t k State = stated (report_at reports k)
 

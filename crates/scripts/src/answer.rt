@@ -1,7 +1,7 @@
 // Replies to the lines of a script, one after the other, from the answers and the reports of the run.
 ghost use Rattle.std.specs.Prelude.{◌≡◌, ◌+◌, ◌^◌, ◌<◌, ◌≤◌, [], ◌∷◌, ◌++◌, map, IfOk, OnOk, slice_index_or};
 ghost use Rattle.std.specs.Option.{option_map};
-ghost use Rattle.node.specs.declared.replay.Answer.TheVariants.{Done};
+ghost use Rattle.node.specs.declared.replay.Outcome.TheVariants.{Done};
 ghost use Rattle.history.specs.Law.{report_at};
 ghost use Rattle.scripts.specs.Reply.{while_waiting, while_refusing, while_working, on_from_waiting, on_from_working, replied, onward, transcript, calls_before};
 ghost use Rattle.scripts.specs.Told.{told};
@@ -12,19 +12,19 @@ use crate::reply::{put_answer, put_refusal, put_state};
 use crate::stage::Stage;
 use crate::verb::Verb;
 use history::Log;
-use node::{Answer, Report};
+use node::{Answer, Outcome, Report};
 use refusals::Refusal;
 use std::alloc::{AllocError, Global};
 use text::put_decimal;
 
 // There is an answer for each call, so that the last branch is never taken.
 fn answer_at(answers: &[Answer], k: usize) -> Answer
-    ensures { result ≡ slice_index_or answers.now k Done }
+    ensures { result ≡ slice_index_or answers.now k (Ok Done) }
 {
     if k < answers.len() {
         answers[k]
     } else {
-        Answer::Done
+        Ok(Outcome::Done)
     }
 }
 

@@ -5,7 +5,7 @@ ghost use Rattle.history.specs.Law.{report_at};
 ghost use Rattle.scripts.specs.Calls.{numbers_of};
 ghost use Rattle.scripts.specs.Reply.{spaced, refused, answered, metered, stated, made};
 
-use node::{Answer, Fields, Report};
+use node::{Answer, Fields, Outcome, Report};
 use refusals::Refusal;
 use std::alloc::AllocError;
 use text::{put_decimal, put_hex};
@@ -68,13 +68,13 @@ pub(crate) fn put_answer(out: &mut Vec<u8>, t: usize, answer: Answer) -> Result<
     ensures { OnOk result (out.new.items ≡ out.old.items ++ answered t answer) }
 {
     match answer {
-        Answer::Refused(refusal) => put_refusal(out, refusal),
-        Answer::Done => out.extend_from_slice(b"ok"),
-        Answer::Tag(place) => put_front(out, b"tag ", &place, t),
-        Answer::Verdict(true) => out.extend_from_slice(b"right"),
-        Answer::Verdict(false) => out.extend_from_slice(b"wrong"),
-        Answer::Frame(place, n) => put_front(out, b"frame ", &place, n),
-        Answer::Given(order) => put_order(out, order),
+        Err(refusal) => put_refusal(out, refusal),
+        Ok(Outcome::Done) => out.extend_from_slice(b"ok"),
+        Ok(Outcome::Tag(place)) => put_front(out, b"tag ", &place, t),
+        Ok(Outcome::Verdict(true)) => out.extend_from_slice(b"right"),
+        Ok(Outcome::Verdict(false)) => out.extend_from_slice(b"wrong"),
+        Ok(Outcome::Frame(frame)) => put_bytes(out, b"frame ", frame.bytes()),
+        Ok(Outcome::Given(order)) => put_order(out, order),
     }
 }
 

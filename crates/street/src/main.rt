@@ -4,13 +4,13 @@
 // that is what is seen here.
 #![tactic(auto)]
 
-use anyhow::anyhow;
+use anyhow::{Context, bail};
 use history::run_calls;
 use hmac::Hmac;
-use node::{Answer, Call, Fields, Report};
+use node::{Answer, Call, Fields, Outcome, Report};
 use sha256::Sha256;
 use std::alloc::Global;
-use std::io;
+use std::fmt;
 
 // The key of the street, which every node has in slot 2.
 static KEY: [u8; 16] = *b"lamps of Mill St";
@@ -109,50 +109,57 @@ fn run(
         &mut work,
     )?;
     for (step, answer) in steps.iter().zip(answers.iter()) {
-        tell(rt, step.0, answer)?;
+        println!(rt; "  {}: {}", step.0, Told(answer))?;
     }
-    close(rt, report)?;
+    println!(rt; "  {}\n", Standing(&report))?;
     Ok(answers)
 }
 
-fn tell(rt: &HostRuntime, what: &str, answer: &Answer) -> io::Result<()> {
-    match answer {
-        Answer::Refused(refusal) => println!(rt; "  {what}: refused by {refusal}"),
-        Answer::Done => println!(rt; "  {what}: done"),
-        Answer::Tag(_) => println!(rt; "  {what}: a tag"),
-        Answer::Verdict(true) => println!(rt; "  {what}: the tag is right"),
-        Answer::Verdict(false) => println!(rt; "  {what}: the tag is wrong"),
-        Answer::Frame(_, length) => println!(rt; "  {what}: a frame of {length} bytes"),
-        Answer::Given(order) => {
-            let number = order.number;
-            println!(rt; "  {what}: taken, order number {number}")
+// An answer, in words.
+#[derive(Drop)]
+struct Told<'a>(&'a Answer);
+
+impl<'a> fmt::Display for Told<'a> {
+    fn fmt<W: fmt::Write>(&self, f: &mut fmt::Formatter<W>) -> fmt::Result {
+        match self.0 {
+            Err(refusal) => write!(f, "refused by {refusal}"),
+            Ok(Outcome::Done) => write!(f, "done"),
+            Ok(Outcome::Tag(_)) => write!(f, "a tag"),
+            Ok(Outcome::Verdict(true)) => write!(f, "the tag is right"),
+            Ok(Outcome::Verdict(false)) => write!(f, "the tag is wrong"),
+            Ok(Outcome::Frame(frame)) => write!(f, "a frame of {} bytes", frame.bytes().len()),
+            Ok(Outcome::Given(order)) => write!(f, "taken, order number {}", order.number),
         }
     }
 }
 
-fn close(rt: &HostRuntime, report: Report) -> io::Result<()> {
-    let level = report.level;
-    let taken = report.taken;
-    let carried = report.carried;
-    let declined = report.declined;
-    let reading = report.reading;
-    println!(rt;
-        "  burns at {level} %; {taken} taken, {carried} carried, {declined} declined; {reading} rounds\n"
-    )
+// A report, in words.
+#[derive(Drop)]
+struct Standing<'a>(&'a Report);
+
+impl<'a> fmt::Display for Standing<'a> {
+    fn fmt<W: fmt::Write>(&self, f: &mut fmt::Formatter<W>) -> fmt::Result {
+        let Report {
+            reading,
+            level,
+            taken,
+            carried,
+            declined,
+        } = self.0;
+        write!(
+            f,
+            "burns at {level} %; {taken} taken, {carried} carried, {declined} declined; {reading} rounds"
+        )
+    }
 }
 
 // The frame that a call wrote.
-fn frame_at(heap: Global, answers: &Vec<Answer>, i: usize) -> anyhow::Result<Vec<u8>> {
-    let Some(answer) = answers.get(i) else {
-        return Err(anyhow!("no such answer"));
+fn frame_at(heap: Global, answers: &[Answer], i: usize) -> anyhow::Result<Vec<u8>> {
+    let answer = answers.get(i).context("no such answer")?;
+    let Ok(Outcome::Frame(frame)) = answer else {
+        bail!("no frame");
     };
-    match answer {
-        Answer::Frame(place, length) => {
-            let end = (*length).min(place.len());
-            Ok(place[0..end].to_vec(heap)?)
-        }
-        _ => Err(anyhow!("no frame")),
-    }
+    Ok(frame.bytes().to_vec(heap)?)
 }
 
 fn cabinet(rt: &HostRuntime) -> anyhow::Result<Vec<Answer>> {
@@ -191,7 +198,7 @@ fn first_lamp<'a>(
     other: &'a [u8],
 ) -> anyhow::Result<Vec<Answer>> {
     if level.len() < 9 || sheet.len() < 22 || damaged.len() < 22 || other.len() < 9 {
-        return Err(anyhow!("a short frame"));
+        bail!("a short frame");
     }
     let steps = [
         ("installs the street's key in slot 2", install()),

@@ -3,3 +3,4 @@ pub mod Held
 pub mod Meter
 pub mod Words
 pub mod Rounds
+pub mod Windows

@@ -1,7 +1,6 @@
 -- What the rounds of the SHA family share: two functions of words, a schedule in which each word past the first sixteen
--- comes from the sixteen before it, steps that each take one of its words, and the closing sum. Code keeps of the
--- schedule a window of sixteen words that is renewed in place. Assumes nothing.
-use Rattle.std.specs.Prelude.{ℕ, zero, suc, ◌+◌, ◌%◌, List, [], ◌∷◌, ◌++◌, take, drop, bit_and, bit_xor, slice_index, slice_set}
+-- comes from the sixteen before it, steps that each take one of its words, and the closing sum. Assumes nothing.
+use Rattle.std.specs.Prelude.{ℕ, zero, suc, ◌+◌, List, [], ◌∷◌, ◌++◌, take, drop, bit_and, bit_xor, slice_index}
 use Rattle.hash.specs.Words.{plus, negated}
 
 -- y where a bit of x is 1, z where it is 0
@@ -17,29 +16,10 @@ unfoldable pub extended : ((ℕ → ℕ) → ℕ → ℕ) → List ℕ → ℕ �
 extended later ws zero = ws
 extended later ws (suc n) = let before = extended later ws n in before ++ later (λ m. slice_index before m) (16 + n) ∷ []
 
--- a window of sixteen words whose word t gave way to the one that comes sixteen later; word m stands at m % 16
-unfoldable pub renewed : ((ℕ → ℕ) → ℕ → ℕ) → List ℕ → ℕ → List ℕ
-renewed later window t = slice_set window t (later (λ m. slice_index window (m % 16)) (16 + t))
-
--- a window whose first n words were renewed, one after the other
-unfoldable pub turned : ((ℕ → ℕ) → ℕ → ℕ) → List ℕ → ℕ → List ℕ
-turned later window zero = window
-turned later window (suc n) = renewed later (turned later window n) n
-
 -- n steps on the words s: `one s t w` is step t with the word w of the schedule ws
 unfoldable pub steps : (List ℕ → ℕ → ℕ → List ℕ) → List ℕ → List ℕ → ℕ → List ℕ
 steps one s ws zero = s
 steps one s ws (suc t) = one (steps one s ws t) t (slice_index ws t)
-
--- n steps from step t on, with the words of a window
-unfoldable pub group : (List ℕ → ℕ → ℕ → List ℕ) → List ℕ → List ℕ → ℕ → ℕ → List ℕ
-group one s window t zero = s
-group one s window t (suc n) = one (group one s window t n) (t + n) (slice_index window ((t + n) % 16))
-
--- n steps from step t on, each with a word that was just renewed in the window
-unfoldable pub rolling : (List ℕ → ℕ → ℕ → List ℕ) → ((ℕ → ℕ) → ℕ → ℕ) → List ℕ → List ℕ → ℕ → ℕ → List ℕ
-rolling one later s window t zero = s
-rolling one later s window t (suc n) = one (rolling one later s window t n) (t + n) (slice_index (turned later window (suc n)) n)
 
 -- the sums of two chains, word by word
 unfoldable pub sums : List ℕ → List ℕ → List ℕ

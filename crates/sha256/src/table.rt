@@ -1,8 +1,8 @@
 // The 64 step constants: the first 32 bits of the fractional parts of the cube roots of the first 64 primes.
 // The steps read them only here.
-ghost use Rattle.std.specs.Prelude.{◌≡◌, ℕ, ◌<◌, slice_index};
+ghost use Rattle.std.specs.Prelude.{◌≡◌, ◌<◌};
 ghost use Rattle.sha256.specs.Primes.{prime, CubeRoot};
-ghost use Rattle.sha256.specs.Round.{constants, constant};
+ghost use Rattle.sha256.specs.Round.{constant};
 
 const K: [u32; 64] = [
     0x428a2f98, 0x71374491, 0xb5c0fbcf, 0xe9b5dba5, 0x3956c25b, 0x59f111f1, 0x923f82a4, 0xab1c5ed5,
@@ -15,18 +15,12 @@ const K: [u32; 64] = [
     0x748f82ee, 0x78a5636f, 0x84c87814, 0x8cc70208, 0x90befffa, 0xa4506ceb, 0xbef9a3f7, 0xc67178f2,
 ];
 
-fn entry(t: usize) -> u32
-    requires { t < 64 }
-    ensures { result ≡ slice_index constants t }
-{
-    K[t]
-}
-
 // K of step t.
+#[tactic(auto, using(crate::proofs::Roots::rooted), unfolding(crate::specs::Round::constant))]
 pub(crate) fn constant_at(t: usize) -> u32
     requires { t < 64 }
     ensures value { result ≡ constant t }
     ensures root { CubeRoot (prime t) result }
 {
-    entry(t)
+    K[t]
 }

@@ -2,11 +2,11 @@
 use Rattle.std.proofs.Common.{◌≡◌, ℕ, zero, suc, ◌<◌, List, [], ◌∷◌, get_or, sym, refl, ap, ◌∙◌, arith}
 use Rattle.hash.specs.Words.{plus, negated, rotl, word, words}
 use Rattle.hash.specs.Rounds.{ch, maj, extended, steps, sums}
-use Rattle.sha_1.specs.Round.{later, summed, shifted, mixed}
+use Rattle.sha_1.specs.Round.{later, mixed}
 use Rattle.sha_1.specs.Means.{strings1, block_of_string, string_of}
 
 rule : (i : ℕ) → strings1 i ≡ string_of (block_of_string i)
-unfolding plus negated rotl word words ch maj extended steps sums later summed shifted mixed
+unfolding plus negated rotl word words ch maj extended steps sums later mixed
 rule zero = refl
 rule (suc zero) = refl
 rule (suc (suc i)) = refl

@@ -1,35 +1,34 @@
--- The steps of SHA-1, group by group, and how long its chain is. Assumes nothing.
-use Rattle.std.specs.Prelude.{◌≡◌, ℕ, suc, ◌+◌, ◌*◌, ◌≤◌, List, length, take, slice_index, refl}
+-- How the steps of SHA-1 follow one another on a window of its schedule, and how long its chain is. Assumes nothing.
+use Rattle.std.specs.Prelude.{◌≡◌, ℕ, suc, ◌+◌, ◌<◌, ◌≤◌, List, length, take, slice_index, refl}
 use Rattle.std.proofs.Common.{◌∙◌, sym, arith}
 use Rattle.std.proofs.lemmas.List.{get_or-take}
 use Rattle.hash.specs.declared.ByteOrder.TheVariants.{HighFirst}
 use Rattle.hash.specs.Words.{words}
-use Rattle.hash.specs.Rounds.{turned, steps, group, rolling}
+use Rattle.hash.specs.Rounds.{steps}
+use Rattle.hash.specs.Windows.{renewed, Holds}
 use Rattle.hash.proofs.Sums.{sums_length, plus_none}
-use Rattle.hash.proofs.Window.{Near, At, sixteen_words, begins as first, goes_on as next}
-use Rattle.sha_1.specs.Round.{later, schedule, mixed, shifted, one1, constants, keyed, round1}
+use Rattle.hash.proofs.Window.{Near, sixteen_words, begins, moves}
+use Rattle.sha_1.specs.Round.{later, schedule, mixed, one1, constants, keyed, round1}
 
 -- the rule of the schedule looks at sixteen words
 near : Near later
 unfolding later
-near f g t u h =
+near f g t past h =
     let a = h 3 (omega arith) (omega arith) in
     let b = h 8 (omega arith) (omega arith) in
     let c = h 14 (omega arith) (omega arith) in
     let d = h 16 (omega arith) (omega arith) in
     cc
 
--- the first group
-pub begins : (block chain keys window s : List ℕ) → window ≡ words HighFirst block 16 → s ≡ group (one1 keys) chain window 0 16 → At (one1 keys) chain (schedule block) window s 0
-begins block chain keys window s = first later near (one1 keys) chain (words HighFirst block 16) (sixteen_words HighFirst block) 64 window s
+pub first : (block window : List ℕ) → window ≡ words HighFirst block 16 → Holds window (schedule block) 0
+first block window = begins later near (words HighFirst block 16) (sixteen_words HighFirst block) 64 window
 
--- every other group
-pub goes_on : (i : ℕ) (block chain keys window s turn after : List ℕ) → 16 * i + 16 ≤ 64 → At (one1 keys) chain (schedule block) window s (16 * i) →
-    after ≡ rolling (one1 keys) later s window (16 * i + 16) 16 → turn ≡ turned later window 16 → At (one1 keys) chain (schedule block) turn after (16 * i + 16)
-goes_on i block chain keys window s turn after = next later near (one1 keys) chain (words HighFirst block 16) (sixteen_words HighFirst block) 64 i window s turn after
+-- a word past the first sixteen takes its place in the window
+pub next : (block window turn : List ℕ) (t : ℕ) → 16 ≤ t → t < 80 → Holds window (schedule block) t → turn ≡ renewed later window t → Holds turn (schedule block) (t + 1)
+next block window turn t past fits = moves later near (words HighFirst block 16) (sixteen_words HighFirst block) 64 t window turn past (omega arith)
 
 steps_length : (ks s ws : List ℕ) (n : ℕ) → length (steps (one1 ks) s ws (suc n)) ≡ 5
-unfolding steps mixed shifted
+unfolding steps mixed
 steps_length ks s ws n = refl
 
 pub round_length : (c k b : List ℕ) → length c ≡ 5 → length (round1 c k b) ≡ 5

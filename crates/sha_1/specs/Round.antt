@@ -30,28 +30,15 @@ later word t = rotl 1 (bit_xor (bit_xor (bit_xor (word (t - 3)) (word (t - 8))) 
 abbrev pub schedule : List ℕ → List ℕ
 schedule block = extended later (words HighFirst block 16) 64
 
--- a step on the five words a to e in the quarter q, with the constant k: its sum before the word of the schedule is added
-unfoldable pub summed : List ℕ → ℕ → ℕ → ℕ
-summed s q k =
+-- a step on the five words a to e in the quarter q, with the constant k and the word w
+unfoldable pub mixed : List ℕ → ℕ → ℕ → ℕ → List ℕ
+mixed s q k w =
     let a = slice_index s 0 in
     let b = slice_index s 1 in
     let c = slice_index s 2 in
     let d = slice_index s 3 in
     let e = slice_index s 4 in
-    plus (plus (plus (rotl 5 a) (logical q b c d)) e) k
-
--- the five words after it, where T is the whole sum
-unfoldable pub shifted : List ℕ → ℕ → List ℕ
-shifted s T =
-    let a = slice_index s 0 in
-    let b = slice_index s 1 in
-    let c = slice_index s 2 in
-    let d = slice_index s 3 in
-    T ∷ a ∷ rotl 30 b ∷ c ∷ d ∷ []
-
--- one step with the word w
-unfoldable pub mixed : List ℕ → ℕ → ℕ → ℕ → List ℕ
-mixed s q k w = shifted s (plus (summed s q k) w)
+    plus (plus (plus (plus (rotl 5 a) (logical q b c d)) e) k) w ∷ a ∷ rotl 30 b ∷ c ∷ d ∷ []
 
 -- step t with its word w, where ks are the four constants
 abbrev pub one1 : List ℕ → List ℕ → ℕ → ℕ → List ℕ

@@ -1,23 +1,25 @@
-use Rattle.std.proofs.Common.{◌≡◌, take, arith}
+use Rattle.std.proofs.Common.{◌≡◌, take, refl, arith}
 use Rattle.std.proofs.lemmas.List.{take_all}
-use Rattle.sha256.specs.Groups.{begins, goes_on}
+use Rattle.hash.specs.Rounds.{steps}
+use Rattle.hash.specs.Windows.{Before}
+use Rattle.sha256.specs.Round.{one256, schedule}
+use Rattle.sha256.specs.Groups.{first}
 use Rattle.sha256.proofs.steps.all_steps.Goals as goal
 
 pub returns : goal.returns
+unfolding steps
 returns c =
     let b = c.args.block.now in
     let h = c.args.chain.now in
     let whole : take 8 h ≡ h = take_all 8 h (omega arith) in
-    let w0 = c.block_words-window.result in
-    let w1 = c.second_steps-s.new.window in
-    let w2 = c.third_steps-s.new.window in
-    let w3 = c.fourth_steps.new.window in
-    let s0 = c.first_steps-s.result in
-    let s1 = c.second_steps-s.result in
-    let s2 = c.third_steps-s.result in
-    let s3 = c.fourth_steps.result in
-    let at0 = begins b h w0 s0 c.block_words-window.ensures c.first_steps-s.ensures in
-    let at1 = goes_on 0 b h w0 s0 w1 s1 (omega arith) at0 c.second_steps-s.ensures.steps c.second_steps-s.ensures.words in
-    let at2 = goes_on 1 b h w1 s1 w2 s2 (omega arith) at1 c.third_steps-s.ensures.steps c.third_steps-s.ensures.words in
-    let at3 = goes_on 2 b h w2 s2 w3 s3 (omega arith) at2 c.fourth_steps.ensures.steps c.fourth_steps.ensures.words in
-    rw whole at3.done
+    let window = c.block_words-window in
+    let s0 : Before one256 h (schedule b) window.result h 0 = record { held = first b window.result window.ensures; done = refl } in
+    let s8 = c.eight_steps.ensures h b s0 in
+    let s16 = c.eight_steps-2.ensures h b s8 in
+    let s24 = c.eight_steps-3.ensures h b s16 in
+    let s32 = c.eight_steps-4.ensures h b s24 in
+    let s40 = c.eight_steps-5.ensures h b s32 in
+    let s48 = c.eight_steps-6.ensures h b s40 in
+    let s56 = c.eight_steps-7.ensures h b s48 in
+    let s64 = c.eight_steps-8.ensures h b s56 in
+    rw whole s64.done

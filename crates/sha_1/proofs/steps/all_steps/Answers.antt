@@ -1,25 +1,31 @@
-use Rattle.std.proofs.Common.{arith}
-use Rattle.sha_1.specs.Groups.{begins, goes_on}
+use Rattle.std.proofs.Common.{refl}
+use Rattle.hash.specs.Rounds.{steps}
+use Rattle.hash.specs.Windows.{Before}
+use Rattle.sha_1.specs.Round.{one1, schedule}
+use Rattle.sha_1.specs.Groups.{first}
 use Rattle.sha_1.proofs.steps.all_steps.Goals as goal
 
 pub returns : goal.returns
+unfolding steps
 returns g c =
     let b = c.args.block.now in
     let h = c.args.chain in
-    let ks = c.args.keys.now in
-    let w0 = c.first_window-window.result in
-    let w1 = c.second_steps-s.new.window in
-    let w2 = c.third_steps-s.new.window in
-    let w3 = c.fourth_steps-s.new.window in
-    let w4 = c.fifth_steps.new.window in
-    let s0 = c.first_steps-s.result in
-    let s1 = c.second_steps-s.result in
-    let s2 = c.third_steps-s.result in
-    let s3 = c.fourth_steps-s.result in
-    let s4 = c.fifth_steps.result in
-    let at0 = begins b h ks w0 s0 c.first_window-window.ensures c.first_steps-s.ensures in
-    let at1 = goes_on 0 b h ks w0 s0 w1 s1 (omega arith) at0 c.second_steps-s.ensures.steps c.second_steps-s.ensures.words in
-    let at2 = goes_on 1 b h ks w1 s1 w2 s2 (omega arith) at1 c.third_steps-s.ensures.steps c.third_steps-s.ensures.words in
-    let at3 = goes_on 2 b h ks w2 s2 w3 s3 (omega arith) at2 c.fourth_steps-s.ensures.steps c.fourth_steps-s.ensures.words in
-    let at4 = goes_on 3 b h ks w3 s3 w4 s4 (omega arith) at3 c.fifth_steps.ensures.steps c.fifth_steps.ensures.words in
-    at4.done
+    let window = c.block_words-window in
+    let s0 : Before (one1 c.args.keys.now) h (schedule b) window.result h 0 = record { held = first b window.result window.ensures; done = refl } in
+    let s5 = c.five_steps.ensures h b s0 in
+    let s10 = c.five_steps-2.ensures h b s5 in
+    let s15 = c.five_steps-3.ensures h b s10 in
+    let s20 = c.five_steps-4.ensures h b s15 in
+    let s25 = c.five_steps-5.ensures h b s20 in
+    let s30 = c.five_steps-6.ensures h b s25 in
+    let s35 = c.five_steps-7.ensures h b s30 in
+    let s40 = c.five_steps-8.ensures h b s35 in
+    let s45 = c.five_steps-9.ensures h b s40 in
+    let s50 = c.five_steps-10.ensures h b s45 in
+    let s55 = c.five_steps-11.ensures h b s50 in
+    let s60 = c.five_steps-12.ensures h b s55 in
+    let s65 = c.five_steps-13.ensures h b s60 in
+    let s70 = c.five_steps-14.ensures h b s65 in
+    let s75 = c.five_steps-15.ensures h b s70 in
+    let s80 = c.five_steps-16.ensures h b s75 in
+    s80.done

@@ -1,6 +1,0 @@
-use Rattle.hash.specs.Rounds.{turned, rolling}
-use Rattle.sha256.proofs.steps.second_steps.Goals as goal
-
-pub returns : goal.returns
-unfolding turned rolling
-returns c = record { steps = cc; words = cc }

@@ -1,6 +1,0 @@
-use Rattle.std.proofs.Common.{arith}
-use Rattle.hash.proofs.Bitwise.{chosen}
-use Rattle.sha256.proofs.words.ch_of.Goals as goal
-
-pub returns : goal.returns
-returns c = chosen c.args.x c.args.y c.args.z (omega arith) (omega arith)

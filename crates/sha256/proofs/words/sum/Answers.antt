@@ -1,7 +1,0 @@
-use Rattle.std.proofs.Common.{refl}
-use Rattle.hash.specs.Words.{plus}
-use Rattle.sha256.proofs.words.sum.Goals as goal
-
-pub returns : goal.returns
-unfolding plus
-returns c = refl

@@ -1,6 +1,0 @@
-use Rattle.sha_1.specs.Round.{mixed}
-use Rattle.sha_1.proofs.steps.late_step.Goals as goal
-
-pub returns : goal.returns
-unfolding mixed
-returns c = record { step = cc; word = cc }

@@ -1,5 +1,0 @@
-use Rattle.hash.proofs.Bitwise.{most}
-use Rattle.sha_1.proofs.words.maj_of.Goals as goal
-
-pub returns : goal.returns
-returns c = most c.args.x c.args.y c.args.z

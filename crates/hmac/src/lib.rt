@@ -13,7 +13,7 @@ ghost use Rattle.hash.proofs.Close.{chained_sized};
 ghost use Rattle.mac.proofs.Codes.{tag_sized};
 
 use hash::{Hash, chain_end, write_code};
-use mac::{Algorithm, KeyRecord, Row, Run, Span, blank_record};
+use mac::{KeyRecord, Row, Run, Span, Streamed, blank_record};
 
 // The lengths of keys, in bytes.
 const KEYS: Span = Span {
@@ -85,7 +85,7 @@ fn close_run<H: Hash>(hash: &mut H, run: &mut Run, block: &mut [u8; 64])
 #[derive(Drop)]
 pub struct Hmac;
 
-impl<H: Hash> Algorithm<H> for Hmac {
+impl<H: Hash> Streamed<H> for Hmac {
     ghost face = { hmac_face H.Hash.meaning };
 
     ghost laws = { let m = H.Hash.meaning in laws_of m (hmac_plan m) };
@@ -99,11 +99,11 @@ impl<H: Hash> Algorithm<H> for Hmac {
         let few = H.Hash.fits.1 in
         tag_sized m (hmac_face m).row.tag _ t (chained_sized m H.Hash.chain_long few m.first _ _ _ H.Hash.first_long) few (omega arith) fits };
 
-    fn row_of() -> Row {
+    fn lengths() -> Row {
         Row::new(KEYS, 4 * H::shape_of().words, MOST)
     }
 
-    fn needs_added() -> bool {
+    fn adds_words() -> bool {
         false
     }
 
@@ -111,7 +111,7 @@ impl<H: Hash> Algorithm<H> for Hmac {
         key_record(hash, work, key)
     }
 
-    fn close(hash: &mut H, run: &mut Run, work: &mut [u8; 64]) {
+    fn close_run(hash: &mut H, run: &mut Run, work: &mut [u8; 64]) {
         close_run(hash, run, work);
     }
 }

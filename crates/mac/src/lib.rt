@@ -1,7 +1,7 @@
 // One interface for every MAC algorithm over every hash. A key is expanded once into a record; a run takes a record's
-// key and is fed the message piece by piece; its end gives the tag. An algorithm gives its row and two steps, the making
-// of a record and the close of a run; all else stands here once. Records and runs are plain words and bytes, laid out
-// alike for all algorithms, and the work block in which key material is handled is lent by the caller.
+// key and is fed the message piece by piece; its end gives the tag. Records and runs are plain words and bytes, laid out
+// alike for all algorithms, and the work block in which key material is handled is lent by the caller. An algorithm whose
+// runs are streams gives its row and two steps, the making of a record and the close of a run; all else stands here once.
 #![tactic(auto)]
 
 ghost use Rattle.std.specs.Prelude.{◌≡◌, ℕ, ◌+◌, ◌-◌, ◌*◌, ◌/◌, ◌%◌, ◌^◌, ◌<◌, ◌≤◌, true, List, [], ◌++◌, length, take, drop, replicate};
@@ -106,43 +106,23 @@ pub trait Algorithm<H: Hash> {
     fn needs_added() -> bool
         ensures { result ≡ face.needs };
 
-    // The two steps in which the algorithms differ. The first makes the record of a key. Any key will do, but only one
-    // whose length the row has is stood for: `expand` asks.
-    fn make_record(hash: &mut H, key: &[u8], work: &mut [u8; 64]) -> KeyRecord
-        ensures stands { within face.row.key (length key.now) ≡ true → face.RecordStands result key.now }
-        ensures meter { hash.new ≡ after H.Hash.next hash.old face.setup };
-
-    // The second makes the last rounds, and leaves the longest tag first in the work block. What the run then holds is
-    // free, since `end` frees it.
-    fn close(hash: &mut H, run: &mut Run, work: &mut [u8; 64])
-        ensures { Closed H.Hash.next face hash.old hash.new run.old work.new };
-
     // Makes a key ready.
     fn expand(hash: &mut H, key: &[u8], work: &mut [u8; 64]) -> Result<KeyRecord, Refusal>
         ensures made { Expanded H.Hash.next face hash.old hash.new key.now result }
-        ensures zeroed { work.new ≡ wiped }
-    {
-        let guard = Wipe { block: work };
-        if !Self::row_of().key.has(key.len()) {
-            return Err(Refusal::KeyLength);
-        }
-        Ok(Self::make_record(hash, key, guard.block))
-    }
+        ensures zeroed { work.new ≡ wiped };
 
     // A run for no bytes.
     fn begin(record: &KeyRecord) -> Run
-        ensures { (k : List ℕ) → face.RecordStands «record».now k → face.RunStands result k [] }
-    {
-        start_run(record)
-    }
+        ensures { (k : List ℕ) → face.RecordStands «record».now k → face.RunStands result k [] };
 
     // Joins a piece at the end.
     fn add(hash: &mut H, run: &mut Run, piece: &[u8]) -> Result<(), Refusal>
-        ensures { Added H.Hash.next face hash.old hash.new run.old run.new piece.now result }
-    {
-        let added = run.added(Self::needs_added());
-        feed(hash, run, &added, Self::row_of().message as u32, piece)
-    }
+        ensures { Added H.Hash.next face hash.old hash.new run.old run.new piece.now result };
+
+    // Makes the last rounds, and leaves the longest tag first in the work block. What the run then holds is free, since
+    // `end` frees it.
+    fn close(hash: &mut H, run: &mut Run, work: &mut [u8; 64])
+        ensures { Closed H.Hash.next face hash.old hash.new run.old work.new };
 
     // Writes the tag of t bytes, and leaves the run free.
     fn end(
@@ -173,9 +153,75 @@ pub trait Algorithm<H: Hash> {
 
     ghost limits: { Limits face };
 
+    ghost sized: { (k b : List ℕ) (t : ℕ) → within face.row.tag t ≡ true → length (face.tag k b t) ≡ t };
+}
+
+// An algorithm whose runs are streams: a run starts from the first words of a record, and each whole block of its bytes
+// is one round, under the second words where the hash has to add some. What is left to give is the row and two steps.
+pub trait Streamed<H: Hash> {
+    ghost face: { Face };
+
+    ghost laws: { Laws face };
+
+    fn lengths() -> Row
+        ensures { result ≡ face.row };
+
+    fn adds_words() -> bool
+        ensures { result ≡ face.needs };
+
+    // The record of a key. Any key will do, but only one whose length the row has is stood for: `expand` asks.
+    fn make_record(hash: &mut H, key: &[u8], work: &mut [u8; 64]) -> KeyRecord
+        ensures stands { within face.row.key (length key.now) ≡ true → face.RecordStands result key.now }
+        ensures meter { hash.new ≡ after H.Hash.next hash.old face.setup };
+
+    // The last rounds, which leave the longest tag first in the work block.
+    fn close_run(hash: &mut H, run: &mut Run, work: &mut [u8; 64])
+        ensures { Closed H.Hash.next face hash.old hash.new run.old work.new };
+
+    ghost limits: { Limits face };
+
     ghost streams: { Streams H.Hash.meaning face };
 
     ghost sized: { (k b : List ℕ) (t : ℕ) → within face.row.tag t ≡ true → length (face.tag k b t) ≡ t };
+}
+
+impl<H: Hash, S: Streamed<H>> Algorithm<H> for S {
+    ghost face = { S.Streamed.face };
+
+    ghost laws = { S.Streamed.laws };
+
+    ghost limits = { S.Streamed.limits };
+
+    ghost sized = { S.Streamed.sized };
+
+    fn row_of() -> Row {
+        S::lengths()
+    }
+
+    fn needs_added() -> bool {
+        S::adds_words()
+    }
+
+    fn expand(hash: &mut H, key: &[u8], work: &mut [u8; 64]) -> Result<KeyRecord, Refusal> {
+        let guard = Wipe { block: work };
+        if !S::lengths().key.has(key.len()) {
+            return Err(Refusal::KeyLength);
+        }
+        Ok(S::make_record(hash, key, guard.block))
+    }
+
+    fn begin(record: &KeyRecord) -> Run {
+        start_run(record)
+    }
+
+    fn add(hash: &mut H, run: &mut Run, piece: &[u8]) -> Result<(), Refusal> {
+        let added = run.added(S::adds_words());
+        feed(hash, run, &added, S::lengths().message as u32, piece)
+    }
+
+    fn close(hash: &mut H, run: &mut Run, work: &mut [u8; 64]) {
+        S::close_run(hash, run, work);
+    }
 }
 
 // Asks whether the piece may be joined, and joins it.

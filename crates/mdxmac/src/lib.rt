@@ -15,7 +15,7 @@ ghost use Rattle.mdxmac.specs.Mixing.{mixed_sized};
 use crate::keys::key_record;
 use crate::lay::{lay_last, lay_short};
 use hash::{Hash, chain_end, write_code};
-use mac::{Algorithm, KeyRecord, Row, Run, Span};
+use mac::{KeyRecord, Row, Run, Span, Streamed};
 
 mod keys;
 mod lay;
@@ -52,7 +52,7 @@ fn close_short<H: Hash>(hash: &mut H, run: &mut Run, block: &mut [u8; 64])
 #[derive(Drop)]
 pub struct MdxMac;
 
-impl<H: Hash> Algorithm<H> for MdxMac {
+impl<H: Hash> Streamed<H> for MdxMac {
     ghost face = { mdx_face H.Hash.meaning };
 
     ghost laws = { let m = H.Hash.meaning in laws_of m (mdx_plan m) };
@@ -68,11 +68,11 @@ impl<H: Hash> Algorithm<H> for MdxMac {
         let start = mixed_sized m keeps few H.Hash.first_long 0 k in
         tag_sized m (mdx_face m).row.tag _ t (chained_sized m keeps few _ _ _ 1 (chained_sized m keeps few _ _ _ _ start)) few (omega arith) fits };
 
-    fn row_of() -> Row {
+    fn lengths() -> Row {
         Row::new(KEYS, 4 * H::shape_of().words, MOST)
     }
 
-    fn needs_added() -> bool {
+    fn adds_words() -> bool {
         true
     }
 
@@ -80,7 +80,7 @@ impl<H: Hash> Algorithm<H> for MdxMac {
         key_record(hash, work, key)
     }
 
-    fn close(hash: &mut H, run: &mut Run, work: &mut [u8; 64]) {
+    fn close_run(hash: &mut H, run: &mut Run, work: &mut [u8; 64]) {
         close_run(hash, run, work);
     }
 }
@@ -88,7 +88,7 @@ impl<H: Hash> Algorithm<H> for MdxMac {
 #[derive(Drop)]
 pub struct ShortMac;
 
-impl<H: Hash> Algorithm<H> for ShortMac {
+impl<H: Hash> Streamed<H> for ShortMac {
     ghost face = { short_face H.Hash.meaning };
 
     ghost laws = { let m = H.Hash.meaning in laws_of m (short_plan m) };
@@ -104,11 +104,11 @@ impl<H: Hash> Algorithm<H> for ShortMac {
         let start = mixed_sized m keeps few H.Hash.first_long 0 k in
         tag_sized m (short_face m).row.tag _ t (chained_sized m keeps few _ _ _ 1 start) few (omega arith) fits };
 
-    fn row_of() -> Row {
+    fn lengths() -> Row {
         Row::new(KEYS, 2 * H::shape_of().words, MOST_SHORT)
     }
 
-    fn needs_added() -> bool {
+    fn adds_words() -> bool {
         true
     }
 
@@ -116,7 +116,7 @@ impl<H: Hash> Algorithm<H> for ShortMac {
         key_record(hash, work, key)
     }
 
-    fn close(hash: &mut H, run: &mut Run, work: &mut [u8; 64]) {
+    fn close_run(hash: &mut H, run: &mut Run, work: &mut [u8; 64]) {
         close_short(hash, run, work);
     }
 }

@@ -1,9 +1,13 @@
 -- The pieces of a text that goes on. Assumes nothing.
 use Rattle.std.proofs.Common.{◌≡◌, ℕ, ◌<◌, Bool, true, false, cond, eqb, List, [], ◌∷◌, ◌++◌, length, sym, refl, ap, ◌∙◌, arith}
 use Rattle.std.proofs.lemmas.Bool.{eq-eqb, ne_eqb, cond-true, cond-false}
-use Rattle.text.specs.Pieces.{begun, pieces}
-use Rattle.text.proofs.Cuts.{pieces_some}
+use Rattle.std.specs.List.{onto_first}
+use Rattle.std.proofs.lemmas.List.Splits.{length-slice_split}
+use Rattle.text.specs.Pieces.{pieces}
 use Rattle.requests.specs.Input.{fronts, final}
+
+pub pieces_some : (c : ℕ) (text : List ℕ) → 0 < length (pieces c text)
+pieces_some c text = omega (arith, length-slice_split (λ b. eqb b c) text)
 
 -- one byte more in the last piece
 abbrev grown : ℕ → List (List ℕ) → List (List ℕ)
@@ -13,7 +17,7 @@ grown b (p ∷ q ∷ ps) = p ∷ grown b (q ∷ ps)
 
 -- the pieces of x and a text, by those of the text
 abbrev led : Bool → ℕ → List (List ℕ) → List (List ℕ)
-led v x ps = cond v ([] ∷ ps) (begun x ps)
+led v x ps = cond v ([] ∷ ps) (onto_first x ps)
 
 led_break : (v : Bool) (x : ℕ) (ps more : List (List ℕ)) → 0 < length ps → led v x (ps ++ more) ≡ led v x ps ++ more
 led_break v x [] more h = absurd (omega arith)

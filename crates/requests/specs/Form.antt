@@ -1,6 +1,6 @@
 -- The form of a line: five fields with one space between, three numbers of one to three digits and two texts of
 -- upper-case hexadecimal pairs. Assumes nothing.
-use Rattle.std.specs.Prelude.{ℕ, cond, List, [], length, Some, None, Option, ◌==◌, slice_index_or}
+use Rattle.std.specs.Prelude.{ℕ, cond, List, [], length, Some, None, Option, ◌==◌, nat_le, slice_index_or}
 use Rattle.text.specs.Decimal.{within, digits_on}
 use Rattle.text.specs.Hex.{bytes_of}
 use Rattle.text.specs.Pieces.{pieces}
@@ -39,3 +39,7 @@ asked_in fields =
 -- what a line asks for, its fields parted by one space each
 unfoldable pub asked_of : List ℕ → Option Asked
 asked_of line = asked_in (pieces 32 line)
+
+-- a line of more than 1,024 bytes asks for nothing
+abbrev pub request_of : List ℕ → Option Asked
+request_of line = cond (nat_le (length line) 1024) (asked_of line) None

@@ -1,10 +1,10 @@
 -- What is replied to a line: the tag and the rounds, the number of the refusal, or `?`. Assumes nothing.
-use Rattle.std.specs.Prelude.{ℕ, cond, List, [], ◌∷◌, ◌++◌, length, Some, None, Ok, Err, decimal, Option, Result, nat_le}
+use Rattle.std.specs.Prelude.{ℕ, List, [], ◌∷◌, ◌++◌, length, Some, None, Ok, Err, decimal, Option, Result}
 use Rattle.refusals.specs.Numbers.{number}
 use Rattle.refusals.specs.declared.Refusal.{Refusal}
 use Rattle.text.specs.Hex.{hex_of}
 use Rattle.tags.specs.Tag.{answered, tag_of}
-use Rattle.requests.specs.Form.{Asked, asked_of}
+use Rattle.requests.specs.Form.{Asked, request_of}
 
 -- the tag, a space and the rounds, or `no`, a space and the refusal's number
 abbrev pub said_of : Result ℕ Refusal → List ℕ → List ℕ
@@ -24,4 +24,4 @@ said (Some q) = answer_to q
 
 -- the reply to a line, with its newline: `?` to a line of more than 1,024 bytes
 abbrev pub reply : List ℕ → List ℕ
-reply line = said (cond (nat_le (length line) 1024) (asked_of line) None) ++ 10 ∷ []
+reply line = said (request_of line) ++ 10 ∷ []

@@ -3,8 +3,9 @@
 // another form. A whole input comes in chunks, which may be cut anywhere: `Lines` holds the line that is not yet ended.
 #![tactic(auto)]
 
-ghost use Rattle.std.specs.Prelude.{◌≡◌, ◌+◌, ◌≤◌, true, [], ◌++◌, is_ok, IfOk, if◌then◌else◌, vec_len, vec_capacity, OnOk};
+ghost use Rattle.std.specs.Prelude.{◌≡◌, true, [], ◌++◌, is_ok, IfOk, if◌then◌else◌, OnOk};
 ghost use Rattle.std.specs.List.{flat_map};
+ghost use Rattle.text.specs.Room.{HasRoom};
 ghost use Rattle.requests.specs.Input.{replies, transcript, unended};
 ghost use Rattle.requests.specs.Reply.{reply};
 ghost use Rattle.requests.specs.Stands.{Stands};
@@ -18,24 +19,16 @@ mod form;
 mod lines;
 mod reply;
 
-// The longest line that is read.
-const LINE_BYTES: usize = 1024;
-
 // Replies to one line, which comes without its newline. Where memory is wanting, `out` is as it was;
 // 86 free bytes suffice.
 pub fn answer_line(line: &[u8], out: &mut Vec<u8>) -> Result<(), AllocError>
     ensures items { out.new.items ≡ (if is_ok result then out.old.items ++ reply line.now else out.old.items) }
-    ensures succeeds { vec_len out.old + 86 ≤ vec_capacity out.old → is_ok result ≡ true }
+    ensures succeeds { HasRoom out.old 86 → is_ok result ≡ true }
 {
     out.reserve(REPLY_BYTES)?;
-    let mut key = [0u8; FIELD_BYTES];
-    let mut message = [0u8; FIELD_BYTES];
-    if line.len() > LINE_BYTES {
-        put_reply(out, None, &key, &message);
-        return Ok(());
-    }
-    let request = request_in(line, &mut key, &mut message);
-    put_reply(out, request, &key, &message);
+    let mut key = [0; FIELD_BYTES];
+    let mut message = [0; FIELD_BYTES];
+    put_reply(out, request_in(line, &mut key, &mut message));
     Ok(())
 }
 
@@ -56,9 +49,7 @@ fn feed_all(lines: &mut Lines, chunks: &[&[u8]], out: &mut Vec<u8>) -> Result<()
     ensures { OnOk result ((out.new.items ≡ out.old.items ++ replies (flat_map (λ c. c.now) chunks.now)) × Stands lines.new (unended (flat_map (λ c. c.now) chunks.now))) }
 {
     for chunk in chunks {
-        if let Err(e) = lines.feed(chunk, out) {
-            return Err(e);
-        }
+        lines.feed(chunk, out)?;
     }
     Ok(())
 }

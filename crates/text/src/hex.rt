@@ -1,10 +1,12 @@
 // Bytes as upper-case hexadecimal pairs, read and written.
-ghost use Rattle.std.specs.Prelude.{◌≡◌, ◌+◌, ◌*◌, ◌<◌, ◌≤◌, true, ◌++◌, length, IfSome, is_ok, IfOk, if◌then◌else◌, vec_items, vec_len, vec_capacity};
+ghost use Rattle.std.specs.Prelude.{◌≡◌, ◌+◌, ◌*◌, ◌/◌, ◌<◌, ◌≤◌, true, None, ◌++◌, length, IfSome, is_ok, IfOk, if◌then◌else◌, nat_le, vec_items, vec_len, vec_capacity};
 ghost use Rattle.std.specs.Option.{option_map};
-ghost use Rattle.text.specs.Hex.{hex_value_of, pair_is, pairs_of, bytes_of, hex_digit_of, hex_of};
+ghost use Rattle.text.specs.Hex.{hex_value_of, pair_of, pairs_of, bytes_of, hex_digit_of, hex_of};
+ghost use Rattle.text.specs.Room.{HasRoom};
 
 use std::alloc::{AllocError, Global};
 
+// Unlike `char::to_digit` it takes no small letters.
 fn hex_value(c: u8) -> Option<u8>
     ensures value { result ≡ hex_value_of c }
     ensures small { IfSome result (λ v. v < 16) }
@@ -17,52 +19,55 @@ fn hex_value(c: u8) -> Option<u8>
 }
 
 // The byte of two hexadecimal digits.
-pub fn pair_value(high: u8, low: u8) -> Option<u8>
-    ensures { pair_is result high low }
+fn pair_value(high: u8, low: u8) -> Option<u8>
+    ensures { result ≡ pair_of high low }
 {
-    let Some(h) = hex_value(high) else {
-        return None;
-    };
-    let Some(l) = hex_value(low) else {
-        return None;
-    };
-    Some(h * 16 + l)
+    Some(hex_value(high)? * 16 + hex_value(low)?)
 }
 
-// The bytes of hexadecimal pairs.
-fn pairs_in(heap: Global, text: &[u8]) -> Result<Option<Vec<u8>>, AllocError>
-    ensures { IfOk result (λ o. option_map vec_items o ≡ pairs_of text.now) }
+// The bytes of hexadecimal pairs, into a place that they fill.
+fn read_pairs(text: &[u8], place: &mut [u8]) -> Option<()>
+    requires { length place.old ≡ length text.now / 2 }
+    ensures { option_map (λ _. place.new) result ≡ pairs_of text.now }
 {
-    if text.len() % 2 != 0 {
-        return Ok(None);
+    let (pairs, odd) = text.as_chunks::<2>();
+    if !odd.is_empty() {
+        return None;
     }
-    let mut bytes = Vec::new(heap);
-    for i in 0..text.len() / 2 {
-        let Some(b) = pair_value(text[2 * i], text[2 * i + 1]) else {
-            return Ok(None);
-        };
-        bytes.push(b)?;
+    for (i, [high, low]) in pairs.iter().enumerate() {
+        place[i] = pair_value(*high, *low)?;
     }
-    Ok(Some(bytes))
+    Some(())
 }
 
-// The bytes that a text writes as pairs, or as `-` where there are none; nothing where it is of another form.
+// The same, or `-` for no byte.
+fn read_bytes(text: &[u8], place: &mut [u8]) -> Option<()>
+    requires { length place.old ≡ length text.now / 2 }
+    ensures { option_map (λ _. place.new) result ≡ bytes_of text.now }
+{
+    match text {
+        [] => None,
+        [c] => (*c == b'-').then_some(()),
+        _ => read_pairs(text, place),
+    }
+}
+
+// The bytes that a text writes as pairs, or as `-` where there are none, in the front of `place`; nothing where the text
+// is of another form, or `place` is shorter.
+pub fn bytes_into<'a>(text: &[u8], place: &'a mut [u8]) -> Option<&'a [u8]>
+    ensures { option_map (λ b. b.now) result ≡ (if nat_le (length text.now / 2) (length place.old) then bytes_of text.now else None) }
+{
+    let front = place.get_mut(..text.len() / 2)?;
+    read_bytes(text, front)?;
+    Some(front)
+}
+
+// The same bytes, on the heap.
 pub fn bytes_in(heap: Global, text: &[u8]) -> Result<Option<Vec<u8>>, AllocError>
     ensures { IfOk result (λ o. option_map vec_items o ≡ bytes_of text.now) }
 {
-    dash_or_pairs(heap, text)
-}
-
-fn dash_or_pairs(heap: Global, text: &[u8]) -> Result<Option<Vec<u8>>, AllocError>
-    ensures { IfOk result (λ o. option_map vec_items o ≡ bytes_of text.now) }
-{
-    if text.len() > 1 {
-        return pairs_in(heap, text);
-    }
-    if text.len() == 1 && text[0] == b'-' {
-        return Ok(Some(Vec::new(heap)));
-    }
-    Ok(None)
+    let mut bytes = vec![in heap; 0; text.len() / 2]?;
+    Ok(read_bytes(text, &mut bytes).map(|()| bytes))
 }
 
 fn hex_digit(d: u8) -> u8
@@ -74,7 +79,7 @@ fn hex_digit(d: u8) -> u8
 
 // The pairs of some bytes at the end of `out`, which has room for them.
 fn put_pairs(out: &mut Vec<u8>, bytes: &[u8])
-    requires { vec_len out.old + 2 * length bytes.now ≤ vec_capacity out.old }
+    requires { HasRoom out.old (2 * length bytes.now) }
     ensures items { out.new.items ≡ out.old.items ++ hex_of bytes.now }
     ensures len { vec_len out.new ≡ vec_len out.old + 2 * length bytes.now }
     ensures capacity { vec_capacity out.new ≡ vec_capacity out.old }
@@ -90,7 +95,7 @@ pub fn put_hex(out: &mut Vec<u8>, bytes: &[u8]) -> Result<(), AllocError>
     ensures items { out.new.items ≡ (if is_ok result then out.old.items ++ hex_of bytes.now else out.old.items) }
     ensures len { vec_len out.new ≤ vec_len out.old + 2 * length bytes.now }
     ensures capacity { vec_capacity out.old ≤ vec_capacity out.new }
-    ensures succeeds { vec_len out.old + 2 * length bytes.now ≤ vec_capacity out.old → is_ok result ≡ true }
+    ensures succeeds { HasRoom out.old (2 * length bytes.now) → is_ok result ≡ true }
 {
     out.reserve(2 * bytes.len())?;
     put_pairs(out, bytes);

@@ -2,15 +2,12 @@ use Rattle.std.proofs.Common.{[], vec_items, subst}
 use Rattle.std.specs.List.{flat_map}
 use Rattle.std.proofs.lemmas.List.{take_all}
 use Rattle.requests.specs.Stands.{Fed}
-use Rattle.requests.proofs.Feeding.{fed_none, fed_chunk}
+use Rattle.requests.proofs.Feeding.{fed_chunk}
 use Rattle.requests.proofs.feed_all.Goals as goal
-
-pub loop-chunk-init : goal.loop-chunk-init
-loop-chunk-init c = fed_none c.args.lines.now (vec_items c.args.out.now)
 
 pub loop-chunk-preserved : goal.loop-chunk-preserved
 loop-chunk-preserved c =
-    fed_chunk c.args.lines.now c.loop-chunk.lines c.feed.new.self (vec_items c.args.out.now) (vec_items c.loop-chunk.out) (vec_items c.feed.new.out) c.args.chunks.now c.loop-chunk.chunk-index _ c.loop-chunk-test.true c.loop-chunk.invariant c.in_default.ensures
+    fed_chunk c.args.lines.now c.loop-chunk.lines c.feed.new.self (vec_items c.args.out.now) (vec_items c.loop-chunk.out) (vec_items c.feed.new.out) c.args.chunks.now c.loop-chunk.chunk-index _ c.loop-chunk-test.true c.loop-chunk.invariant c.in_ok-feed.ensures
 
 pub returns : goal.returns
 returns c =

@@ -1,16 +1,15 @@
 // Takes in the chunks of an input and replies to each line as its newline comes. Of a line that is too long no more
 // than its front is held.
-ghost use Rattle.std.specs.Prelude.{◌≡◌, ℕ, ◌+◌, ◌≤◌, true, List, [], ◌∷◌, ◌++◌, is_ok, vec_len, vec_capacity, MatchResult, ◌≢◌};
+ghost use Rattle.std.specs.Prelude.{◌≡◌, ℕ, true, List, [], ◌∷◌, ◌++◌, is_ok, MatchResult, ◌≢◌};
+ghost use Rattle.text.specs.Room.{HasRoom};
 ghost use Rattle.requests.specs.Input.{last_reply};
 ghost use Rattle.requests.specs.Reply.{reply};
 ghost use Rattle.requests.specs.Stands.{Stands, Fed, FedSome, Replied, Same};
 
 use crate::answer_line;
 use crate::lines::Lines;
+use arrayvec::ArrayVec;
 use std::alloc::AllocError;
-
-// How many bytes of a line are held.
-const HELD: usize = 1025;
 
 impl Lines {
     // Nothing is pending.
@@ -18,8 +17,7 @@ impl Lines {
         ensures { Stands result [] }
     {
         Lines {
-            held: [0; HELD],
-            len: 0,
+            held: ArrayVec::new(),
         }
     }
 
@@ -33,7 +31,7 @@ impl Lines {
     // Replies to a last line without a newline, if there is one. Where memory is wanting, nothing is done.
     pub fn finish(&mut self, out: &mut Vec<u8>) -> Result<(), AllocError>
         ensures told { MatchResult result (λ _. Replied last_reply self.old out.old.items self.new out.new.items) (λ _. Same self.old out.old.items self.new out.new.items) }
-        ensures succeeds { vec_len out.old + 86 ≤ vec_capacity out.old → is_ok result ≡ true }
+        ensures succeeds { HasRoom out.old 86 → is_ok result ≡ true }
     {
         self.end_input(out)
     }
@@ -43,30 +41,27 @@ impl Lines {
         requires { b ≢ 10 }
         ensures { (pending : List ℕ) → Stands self.old pending → Stands self.new (pending ++ b ∷ []) }
     {
-        let n = self.len;
-        if n < HELD {
-            self.held[n] = b;
-            self.len = n + 1;
+        if !self.held.is_full() {
+            self.held.push(b);
         }
     }
 
     // The end of a line.
     fn end_line(&mut self, out: &mut Vec<u8>) -> Result<(), AllocError>
         ensures told { MatchResult result (λ _. Replied reply self.old out.old.items self.new out.new.items) (λ _. Same self.old out.old.items self.new out.new.items) }
-        ensures succeeds { vec_len out.old + 86 ≤ vec_capacity out.old → is_ok result ≡ true }
+        ensures succeeds { HasRoom out.old 86 → is_ok result ≡ true }
     {
-        let n = self.len;
-        answer_line(&self.held[0..n], out)?;
-        self.len = 0;
+        answer_line(&self.held, out)?;
+        self.held.clear();
         Ok(())
     }
 
     // The end of the input.
     fn end_input(&mut self, out: &mut Vec<u8>) -> Result<(), AllocError>
         ensures told { MatchResult result (λ _. Replied last_reply self.old out.old.items self.new out.new.items) (λ _. Same self.old out.old.items self.new out.new.items) }
-        ensures succeeds { vec_len out.old + 86 ≤ vec_capacity out.old → is_ok result ≡ true }
+        ensures succeeds { HasRoom out.old 86 → is_ok result ≡ true }
     {
-        if self.len == 0 {
+        if self.held.is_empty() {
             return Ok(());
         }
         self.end_line(out)
@@ -88,9 +83,7 @@ impl Lines {
         ensures { MatchResult result (λ _. Fed self.old out.old.items chunk.now self.new out.new.items) (λ _. FedSome self.old out.old.items chunk.now self.new out.new.items) }
     {
         for b in chunk {
-            if let Err(e) = self.step(*b, out) {
-                return Err(e);
-            }
+            self.step(*b, out)?;
         }
         Ok(())
     }

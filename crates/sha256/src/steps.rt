@@ -1,6 +1,6 @@
 // The 64 steps of a round, eight at a time. Of the schedule only a window of sixteen words is kept: a step past the first
 // sixteen puts its word in the place of the oldest. Where eight steps begin is a const parameter, so that the constant of each
-// step and the place of its word are known when the code is compiled; a longer loop than of eight is not unrolled.
+// step and the place of its word are known when the code is compiled; a loop of sixteen is not unrolled.
 ghost use Rattle.std.specs.Prelude.{◌≡◌, ℕ, ◌+◌, ◌%◌, ◌<◌, ◌≤◌, List, take, slice_index};
 ghost use Rattle.hash.specs.Meaning.{step as round};
 ghost use Rattle.hash.specs.Rounds.{steps, added as closed};

@@ -1,6 +1,6 @@
 // The 80 steps of a round, five at a time. Of the schedule only a window of sixteen words is kept: a step past the first
 // sixteen puts its word in the place of the oldest. Where five steps begin is a const parameter, so that the quarter of each
-// step and the place of its word are known when the code is compiled; a longer loop than of five is not unrolled.
+// step and the place of its word are known when the code is compiled; a loop of eight is not unrolled.
 ghost use Rattle.std.specs.Prelude.{◌≡◌, ℕ, ◌+◌, ◌%◌, ◌<◌, ◌≤◌, List, true, false, take, slice_index};
 ghost use Rattle.hash.specs.Meaning.{step as round};
 ghost use Rattle.hash.specs.Words.{blank};
@@ -123,24 +123,24 @@ fn five(chain: &[u32; 8]) -> [u32; 5]
     *chain.first_chunk().unwrap()
 }
 
-// The round, where it is known when the code is compiled whether there are added words. The three words past the chain's
-// five stay.
-fn run_steps<const KEYED: bool>(chain: &mut [u32; 8], added: &[u32; 8], block: &[u8; 64])
-    requires { KEYED ≡ false → blank added.now ≡ true }
-    ensures { chain.new ≡ round meaning1 chain.old added.now block.now }
+// The round with the constants and added words in `keys`. The three words past the chain's five stay. `KEYED` only keeps two
+// compiled copies apart.
+fn run_steps<const KEYED: bool>(chain: &mut [u32; 8], keys: &[u32; 4], block: &[u8; 64])
+    ensures { chain.new ≡ closed chain.old (steps (one1 keys.now) (take 5 chain.old) (schedule block.now) 80) 5 }
 {
-    let last = all_steps::<KEYED>(five(chain), &keys::<KEYED>(added), block);
+    let last = all_steps::<KEYED>(five(chain), keys, block);
     close(chain, &last);
 }
 
 // The round. Without added words, as in the plain hash, each step has a constant that is known when it is compiled, which takes one
-// instruction less a step: so rounds with and without such words are compiled apart.
+// instruction less a step: so rounds with and without such words are compiled apart. The keys are made here and lent: made where the
+// steps are, they would take registers from these.
 pub(crate) fn compress(chain: &mut [u32; 8], added: &[u32; 8], block: &[u8; 64])
     ensures { chain.new ≡ round meaning1 chain.old added.now block.now }
 {
     if none_added(added) {
-        run_steps::<false>(chain, added, block);
+        run_steps::<false>(chain, &keys::<false>(added), block);
     } else {
-        run_steps::<true>(chain, added, block);
+        run_steps::<true>(chain, &keys::<true>(added), block);
     }
 }

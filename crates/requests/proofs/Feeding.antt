@@ -2,6 +2,7 @@
 use Rattle.std.proofs.Common.{◌≡◌, ℕ, ◌+◌, ◌<◌, ◌≤◌, List, [], ◌∷◌, ◌++◌, length, get_or, take, sym, refl, ap, ◌∙◌, subst, append_assoc, append-nil, arith, length-take, Bor}
 use Rattle.std.specs.List.{flat_map}
 use Rattle.std.proofs.lemmas.List.{flat_map_more, take_all, take_more}
+use Rattle.std.proofs.lemmas.List.Concat.{flat_map-append}
 use Rattle.requests.specs.declared.lines.Lines.{Lines}
 use Rattle.text.specs.Pieces.{pieces}
 use Rattle.requests.specs.Reply.{reply}
@@ -10,16 +11,12 @@ use Rattle.requests.specs.Stands.{Stands, Fed, Replied, Same}
 use Rattle.requests.proofs.Breaks.{pieces_some, one_broken, one_grown, pieces_append, fronts_append, final_append}
 use Rattle.requests.proofs.Held.{reply_front}
 
-joined_append : (xs ys : List (List ℕ)) → flat_map reply (xs ++ ys) ≡ flat_map reply xs ++ flat_map reply ys
-joined_append [] ys = refl
-joined_append (x ∷ xs) ys = ap (λ l. reply x ++ l) (joined_append xs ys) ∙ sym (append_assoc (reply x) (flat_map reply xs) (flat_map reply ys))
-
 -- an input that goes on
 pub replies_append : (xs ys : List ℕ) → replies (xs ++ ys) ≡ replies xs ++ replies (unended xs ++ ys)
 replies_append xs ys =
     ap (λ ps. flat_map reply (fronts ps)) (pieces_append 10 xs ys)
     ∙ ap (flat_map reply) (fronts_append (ended xs) (pieces 10 (unended xs ++ ys)) (pieces_some 10 (unended xs ++ ys)))
-    ∙ joined_append (ended xs) (ended (unended xs ++ ys))
+    ∙ flat_map-append reply (ended xs) (ended (unended xs ++ ys))
 
 pub unended_append : (xs ys : List ℕ) → unended (xs ++ ys) ≡ unended (unended xs ++ ys)
 unended_append xs ys =

@@ -34,6 +34,7 @@ fn read_pairs(text: &[u8], place: &mut [u8]) -> Option<()>
     if !odd.is_empty() {
         return None;
     }
+    // by its place, since a zip with `iter_mut` does not tell what was written
     for (i, [high, low]) in pairs.iter().enumerate() {
         place[i] = pair_value(*high, *low)?;
     }

@@ -16,27 +16,8 @@ use Rattle.scripts.specs.declared.verb.Verb.TheVariants.{Node, Calling, Meter, S
 use Rattle.scripts.specs.Calls.{spelled, calls_asked}
 use Rattle.scripts.specs.Form.{Said}
 use Rattle.scripts.specs.Making.{making_of}
-use Rattle.scripts.specs.Play.{is_node, PlayedBy, PlayedAs, PlayedIn}
+use Rattle.scripts.specs.Play.{is_node, PlayedAs, PlayedIn}
 use Rattle.scripts.specs.Told.{told}
-
-module _ (m : Making) (answers : List Answer) (reports : List Report) where
-  pub played_none : (lines : List Said) → m.algorithm ≡ None → PlayedAs m lines answers reports
-  unfolding PlayedAs
-  played_none lines e = subst (λ o. PlayedBy o m.hash m.t m.address lines answers reports) (sym e) tt
-
-  pub played_no_hash : (lines : List Said) (a : AlgorithmKind) → m.algorithm ≡ Some a → m.hash ≡ None → PlayedAs m lines answers reports
-  unfolding PlayedAs
-  played_no_hash lines a e n =
-      subst (λ o. PlayedBy o m.hash m.t m.address lines answers reports) (sym e)
-      (subst (λ o. PlayedBy (Some a) o m.t m.address lines answers reports) (sym n) tt)
-
-  pub played : (calls : List Call) (a : AlgorithmKind) (h : HashKind) (start : ℕ) → m.algorithm ≡ Some a → m.hash ≡ Some h → start ≡ 0 → Logged (face_of a (meaning_of h)) (meaning_of h).added m.t m.address start calls answers reports → PlayedAs m (map spelled calls) answers reports
-  unfolding PlayedAs
-  played calls a h start e n zero ran =
-      let P : ℕ → Type 0 = λ k. Logged (face_of a (meaning_of h)) (meaning_of h).added m.t m.address k calls answers reports in
-      subst (λ o. PlayedBy o m.hash m.t m.address (map spelled calls) answers reports) (sym e)
-      (subst (λ o. PlayedBy (Some a) o m.t m.address (map spelled calls) answers reports) (sym n)
-      record { calls = calls; spell = refl; ran = subst P zero ran })
 
 pub no_node : (v : Verb) → (v ≡ Node → ⊥) → is_node v ≡ false
 no_node Node ne = absurd (ne refl)
@@ -55,11 +36,11 @@ module _ (lines : List (Option Command)) (i : ℕ) (x : Option Command) (lt : i 
       ∙ ap (λ y. option_map told y ∷ map (option_map told) (drop (i + 1) lines)) (sym at)
 
   -- the first node line
-  pub play_node : (c : Command) (m : Making) → x ≡ Some c → is_node c.verb ≡ true → m ≡ making_of (vec_items c.numbers) → PlayedAs m (calls_asked (map (option_map told) (take (length lines - (i + 1)) (drop (i + 1) lines)))) answers reports → PlayedIn (drop i (map (option_map told) lines)) answers reports
-  play_node c m is node e p =
+  pub play_node : (c : Command) → x ≡ Some c → is_node c.verb ≡ true → PlayedAs (making_of (vec_items c.numbers)) (calls_asked (map (option_map told) (take (length lines - (i + 1)) (drop (i + 1) lines)))) answers reports → PlayedIn (drop i (map (option_map told) lines)) answers reports
+  play_node c is node p =
       let rest = map (option_map told) (drop (i + 1) lines) in
       let q : PlayedAs (making_of (vec_items c.numbers)) (calls_asked rest) answers reports =
-      subst (λ k. PlayedAs k (calls_asked rest) answers reports) e (subst (λ l. PlayedAs m (calls_asked (map (option_map told) l)) answers reports) (take_rest lines (i + 1)) p)
+      subst (λ l. PlayedAs (making_of (vec_items c.numbers)) (calls_asked (map (option_map told) l)) answers reports) (take_rest lines (i + 1)) p
       in
       subst (λ l. PlayedIn l answers reports) (sym (here ∙ ap (λ y. option_map told y ∷ rest) is))
       (subst (λ b. cond b (PlayedAs (making_of (vec_items c.numbers)) (calls_asked rest) answers reports) (PlayedIn rest answers reports)) (sym node) q)

@@ -9,18 +9,22 @@ use Rattle.tags.specs.declared.HashKind.{HashKind}
 use Rattle.node.specs.Asking.{making_q}
 use Rattle.scripts.specs.declared.making.Making.{Making}
 
--- the numbers are those of algorithm, hash, tag length and address
-abbrev pub making_of : List ℕ → Making
-making_of ns = record { algorithm = algorithm_by (slice_index ns 0); hash = hash_by (slice_index ns 1); t = slice_index ns 2; address = slice_index ns 3 }
+-- the numbers are those of algorithm, hash, tag length and address; is there such an algorithm and hash?
+abbrev pub made_of : Option AlgorithmKind → Option HashKind → ℕ → ℕ → Option Making
+made_of None h t own = None
+made_of (Some a) None t own = None
+made_of (Some a) (Some h) t own = Some record { algorithm = a; hash = h; t = t; address = own }
 
--- is there such an algorithm and hash? then the questions of the making
-abbrev pub refusal_by : Option AlgorithmKind → Option HashKind → ℕ → ℕ → Option Refusal
-refusal_by None h t own = Some Unknown
-refusal_by (Some a) None t own = Some Unknown
-refusal_by (Some a) (Some h) t own = first_refusal (making_q (face_of a (meaning_of h)) (meaning_of h).added t own)
+abbrev pub making_of : List ℕ → Option Making
+making_of ns = made_of (algorithm_by (slice_index ns 0)) (hash_by (slice_index ns 1)) (slice_index ns 2) (slice_index ns 3)
 
-unfoldable pub refusal_at_making : Making → Option Refusal
-refusal_at_making m = refusal_by m.algorithm m.hash m.t m.address
+-- the first question of a making that is answered no
+abbrev pub asked : Making → Option Refusal
+asked m = first_refusal (making_q (face_of m.algorithm (meaning_of m.hash)) (meaning_of m.hash).added m.t m.address)
+
+abbrev pub refusal_at_making : Option Making → Option Refusal
+refusal_at_making None = Some Unknown
+refusal_at_making (Some m) = asked m
 
 -- why the making is refused that a node line asks for, if it is
 abbrev pub making : List ℕ → Option Refusal

@@ -30,13 +30,9 @@ pub record Played (a : AlgorithmKind) (h : HashKind) (t own : ℕ) (lines : List
   pub ran : Logged (face_of a (meaning_of h)) (meaning_of h).added t own 0 calls answers reports
 
 -- nothing is run where there is no such algorithm or hash
-abbrev pub PlayedBy : Option AlgorithmKind → Option HashKind → ℕ → ℕ → List Said → List Answer → List Report → Type 0
-PlayedBy None h t own lines answers reports = Unit {0}
-PlayedBy (Some a) None t own lines answers reports = Unit {0}
-PlayedBy (Some a) (Some h) t own lines answers reports = Played a h t own lines answers reports
-
-unfoldable pub PlayedAs : Making → List Said → List Answer → List Report → Type 0
-PlayedAs m lines answers reports = PlayedBy m.algorithm m.hash m.t m.address lines answers reports
+abbrev pub PlayedAs : Option Making → List Said → List Answer → List Report → Type 0
+PlayedAs None lines answers reports = Unit {0}
+PlayedAs (Some m) lines answers reports = Played m.algorithm m.hash m.t m.address lines answers reports
 
 -- the first node line makes the node; nothing is run where there is none
 abbrev pub PlayedIn : List (Option Said) → List Answer → List Report → Type 0

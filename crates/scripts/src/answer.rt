@@ -7,7 +7,7 @@ ghost use Rattle.scripts.specs.Reply.{while_waiting, while_refusing, while_worki
 ghost use Rattle.scripts.specs.Told.{told};
 
 use crate::command::Command;
-use crate::play::{making_in, refusal_of};
+use crate::play::made_by;
 use crate::reply::{put_answer, put_refusal, put_state};
 use crate::stage::Stage;
 use crate::verb::Verb;
@@ -50,15 +50,14 @@ fn put_making(out: &mut Vec<u8>, command: &Command) -> Result<Stage, AllocError>
     requires { command.now.verb ≡ Verb.Node }
     ensures { IfOk result (λ next. (out.new.items ≡ out.old.items ++ while_waiting command.now.verb command.now.numbers.items) × (next ≡ on_from_waiting command.now.verb command.now.numbers.items)) }
 {
-    let making = making_in(command);
-    match refusal_of(making) {
-        Some(refusal) => {
-            put_refusal(out, refusal)?;
-            Ok(Stage::Refusing(refusal))
-        }
-        None => {
+    match made_by(command) {
+        Ok(making) => {
             out.extend_from_slice(b"ok")?;
             Ok(Stage::Working(making.t, 0))
+        }
+        Err(refusal) => {
+            put_refusal(out, refusal)?;
+            Ok(Stage::Refusing(refusal))
         }
     }
 }

@@ -1,13 +1,14 @@
 // Makes the node that a script asks for, and runs its calls.
-ghost use Rattle.std.specs.Prelude.{◌≡◌, map, IfOk};
+ghost use Rattle.std.specs.Prelude.{◌≡◌, map, IfOk, slice_index};
+ghost use Rattle.std.specs.Result.{result_err};
 ghost use Rattle.std.specs.Option.{option_map};
 ghost use Rattle.refusals.specs.Questions.{first_refusal};
-ghost use Rattle.tags.specs.Kinds.{face_of};
+ghost use Rattle.tags.specs.Kinds.{Found, face_of};
 ghost use Rattle.node.specs.Asking.{making_q};
 ghost use Rattle.history.specs.Law.{Logged};
 ghost use Rattle.scripts.specs.Calls.{spelled, calls_asked};
-ghost use Rattle.scripts.specs.Making.{making_of, refusal_at_making};
-ghost use Rattle.scripts.specs.Play.{PlayedAs, PlayedIn};
+ghost use Rattle.scripts.specs.Making.{making_of, asked, making};
+ghost use Rattle.scripts.specs.Play.{Played, PlayedAs, PlayedIn};
 ghost use Rattle.scripts.specs.Told.{told};
 
 use crate::calls::{calls_in, six};
@@ -27,79 +28,81 @@ use sha256::Sha256;
 use std::alloc::{AllocError, Global};
 use tags::{AlgorithmKind, HashKind};
 
-// Why a making is refused, if it is, with an algorithm over a hash.
-fn refusal_with<H: Hash + Drop, A: Algorithm<H> + Drop>(
+// Asks the questions of a making, of an algorithm over a hash.
+fn ask_with<H: Hash + Drop, A: Algorithm<H> + Drop>(
     hash: H,
     t: usize,
     address: u16,
-) -> Option<Refusal>
-    ensures { result ≡ first_refusal (making_q A.Algorithm.face H.Hash.meaning.added t address) }
+) -> Result<(), Refusal>
+    ensures { result_err result ≡ first_refusal (making_q A.Algorithm.face H.Hash.meaning.added t address) }
 {
     let node: Node<H, A> = Node::make(hash, t, address);
-    node.refusal()
+    match node.refusal() {
+        Some(refusal) => Err(refusal),
+        None => Ok(()),
+    }
 }
 
 // The same, by the kind of the algorithm.
-fn refusal_over<H: Hash + Drop>(
-    hash: H,
-    algorithm: AlgorithmKind,
-    t: usize,
-    address: u16,
-) -> Option<Refusal>
-    ensures { result ≡ first_refusal (making_q (face_of algorithm H.meaning) H.meaning.added t address) }
+fn ask_over<H: Hash + Drop>(hash: H, making: Making) -> Result<(), Refusal>
+    ensures { result_err result ≡ first_refusal (making_q (face_of making.algorithm H.meaning) H.meaning.added making.t making.address) }
 {
-    match algorithm {
-        AlgorithmKind::OfMdxMac => refusal_with::<H, MdxMac>(hash, t, address),
-        AlgorithmKind::OfHmac => refusal_with::<H, Hmac>(hash, t, address),
-        AlgorithmKind::OfShortMac => refusal_with::<H, ShortMac>(hash, t, address),
-    }
-}
-
-// Why the making is refused, if it is.
-pub(crate) fn refusal_of(making: Making) -> Option<Refusal>
-    ensures { result ≡ refusal_at_making making }
-{
-    let Some(algorithm) = making.algorithm else {
-        return Some(Refusal::Unknown);
-    };
-    let Some(hash) = making.hash else {
-        return Some(Refusal::Unknown);
-    };
     let (t, address) = (making.t, making.address);
-    match hash {
-        HashKind::OfRipemd160 => refusal_over(Ripemd160::new(), algorithm, t, address),
-        HashKind::OfSha1 => refusal_over(Sha1::new(), algorithm, t, address),
-        HashKind::OfSha256 => refusal_over(Sha256::new(), algorithm, t, address),
+    match making.algorithm {
+        AlgorithmKind::OfMdxMac => ask_with::<H, MdxMac>(hash, t, address),
+        AlgorithmKind::OfHmac => ask_with::<H, Hmac>(hash, t, address),
+        AlgorithmKind::OfShortMac => ask_with::<H, ShortMac>(hash, t, address),
     }
 }
 
-// The making that a node line asks for.
-pub(crate) fn making_in(command: &Command) -> Making
+fn ask(making: Making) -> Result<(), Refusal>
+    ensures { result_err result ≡ asked making }
+{
+    match making.hash {
+        HashKind::OfRipemd160 => ask_over(Ripemd160::new(), making),
+        HashKind::OfSha1 => ask_over(Sha1::new(), making),
+        HashKind::OfSha256 => ask_over(Sha256::new(), making),
+    }
+}
+
+// The making that a node line asks for, where there are such an algorithm and hash.
+fn making_in(command: &Command) -> Result<Making, Refusal>
     requires { command.now.verb ≡ Verb.Node }
-    ensures { result ≡ making_of command.now.numbers.items }
+    ensures made { Found (making_of command.now.numbers.items) result }
+    ensures size { IfOk result (λ m. m.t ≡ slice_index command.now.numbers.items 2) }
 {
     let n = six(&command.numbers);
-    Making {
-        algorithm: AlgorithmKind::try_from(n[0] as u32).ok(),
-        hash: HashKind::try_from(n[1] as u32).ok(),
+    Ok(Making {
+        algorithm: AlgorithmKind::try_from(n[0] as u32)?,
+        hash: HashKind::try_from(n[1] as u32)?,
         t: n[2] as usize,
         address: n[3] as u16,
-    }
+    })
+}
+
+// The same, where no question of the making is answered no.
+pub(crate) fn made_by(command: &Command) -> Result<Making, Refusal>
+    requires { command.now.verb ≡ Verb.Node }
+    ensures refusal { result_err result ≡ making command.now.numbers.items }
+    ensures size { IfOk result (λ m. m.t ≡ slice_index command.now.numbers.items 2) }
+{
+    let making = making_in(command)?;
+    ask(making)?;
+    Ok(making)
 }
 
 // Runs the calls on a new node, by the kind of the algorithm.
 fn run_over<H: Hash + Drop>(
     heap: Global,
     hash: H,
-    algorithm: AlgorithmKind,
     making: Making,
     calls: &[Call<'_>],
 ) -> Result<Log, AllocError>
-    ensures { IfOk result (λ l. Logged (face_of algorithm H.meaning) H.meaning.added making.t making.address (H.reading hash) calls.now l.answers.items l.reports.items) }
+    ensures { IfOk result (λ l. Logged (face_of making.algorithm H.meaning) H.meaning.added making.t making.address (H.reading hash) calls.now l.answers.items l.reports.items) }
 {
     let mut work = [0u8; 64];
     let (t, address) = (making.t, making.address);
-    match algorithm {
+    match making.algorithm {
         AlgorithmKind::OfMdxMac => {
             log_calls::<H, MdxMac>(heap, hash, t, address, calls, &mut work)
         }
@@ -117,27 +120,29 @@ fn empty_log(heap: Global) -> Log {
     }
 }
 
-// Runs the calls on the node that is asked for. Nothing is run where there is no such algorithm or hash.
 fn run_as(heap: Global, making: Making, calls: &[Call<'_>]) -> Result<Log, AllocError>
-    ensures { IfOk result (λ l. PlayedAs making (map spelled calls.now) l.answers.items l.reports.items) }
+    ensures { IfOk result (λ l. Played making.algorithm making.hash making.t making.address (map spelled calls.now) l.answers.items l.reports.items) }
 {
-    let Some(algorithm) = making.algorithm else {
-        return Ok(empty_log(heap));
-    };
-    let Some(hash) = making.hash else {
-        return Ok(empty_log(heap));
-    };
-    match hash {
-        HashKind::OfRipemd160 => run_over(heap, Ripemd160::new(), algorithm, making, calls),
-        HashKind::OfSha1 => run_over(heap, Sha1::new(), algorithm, making, calls),
-        HashKind::OfSha256 => run_over(heap, Sha256::new(), algorithm, making, calls),
+    match making.hash {
+        HashKind::OfRipemd160 => run_over(heap, Ripemd160::new(), making, calls),
+        HashKind::OfSha1 => run_over(heap, Sha1::new(), making, calls),
+        HashKind::OfSha256 => run_over(heap, Sha256::new(), making, calls),
     }
 }
 
-// Runs the calls among the lines on the node that a node line asks for.
-fn run_lines(heap: Global, making: Making, lines: &[Option<Command>]) -> Result<Log, AllocError>
-    ensures { IfOk result (λ l. PlayedAs making (calls_asked (map (option_map told) lines.now)) l.answers.items l.reports.items) }
+// Runs the calls among the lines on the node that a node line asks for. Nothing is run where there is no such algorithm
+// or hash.
+fn run_lines(
+    heap: Global,
+    command: &Command,
+    lines: &[Option<Command>],
+) -> Result<Log, AllocError>
+    requires { command.now.verb ≡ Verb.Node }
+    ensures { IfOk result (λ l. PlayedAs (making_of command.now.numbers.items) (calls_asked (map (option_map told) lines.now)) l.answers.items l.reports.items) }
 {
+    let Ok(making) = making_in(command) else {
+        return Ok(empty_log(heap));
+    };
     let calls = calls_in(heap, lines)?;
     run_as(heap, making, &calls)
 }
@@ -149,7 +154,7 @@ pub(crate) fn run_script(heap: Global, lines: &[Option<Command>]) -> Result<Log,
     for (i, line) in lines.iter().enumerate() {
         if let Some(command) = line {
             if let Verb::Node = command.verb {
-                return run_lines(heap, making_in(command), &lines[i + 1..]);
+                return run_lines(heap, command, &lines[i + 1..]);
             }
         }
     }

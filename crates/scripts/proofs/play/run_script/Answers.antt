@@ -11,7 +11,7 @@ loop-i-init c = λ answers reports p. p
 pub returns-in-Node : goal.returns-in-Node
 returns-in-Node c =
     IfOk-weaker c.run_lines.result _ _
-    (λ l p. c.loop-i.invariant _ _ (play_node c.args.lines.now c.loop-i.i c.index-lines-i.result c.loop-i-test.true c.index-lines-i.is _ _ c.in-Some.command c.making_in.result c.in-Some.is (ap is_node c.in-Node.is) c.making_in.ensures p))
+    (λ l p. c.loop-i.invariant _ _ (play_node c.args.lines.now c.loop-i.i c.index-lines-i.result c.loop-i-test.true c.index-lines-i.is _ _ c.in-Some.command c.in-Some.is (ap is_node c.in-Node.is) p))
     c.run_lines.ensures
 
 pub loop-i-preserved : goal.loop-i-preserved

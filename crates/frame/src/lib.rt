@@ -21,7 +21,8 @@ mod writing;
 pub use kind::Kind;
 pub use writing::{header_bytes, write_front};
 
-const HEADER_BYTES: usize = 8;
+// A frame's header, behind which the body stands.
+pub const HEADER_BYTES: usize = 8;
 
 const VERSION: u8 = 1;
 

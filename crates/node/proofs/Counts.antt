@@ -4,7 +4,10 @@ use Rattle.std.proofs.lemmas.List.{get_or-set_same, get_or-set_other, length-set
 use Rattle.std.proofs.lemmas.Bool.{cases_eq}
 use Rattle.node.specs.declared.desk.Desk.{Desk}
 use Rattle.node.specs.declared.desk.Fields.{Fields}
-use Rattle.node.specs.Calls.{desk_taken, desk_carried, desk_declined, desk_sealed}
+use Rattle.node.specs.declared.desk.End.{End}
+use Rattle.node.specs.declared.desk.End.TheVariants.{Carry, Decline}
+use Rattle.node.specs.Orders.{desk_ended}
+use Rattle.node.specs.Calls.{desk_taken, desk_sealed}
 use Rattle.node.specs.Stands.{Sound, sum, in_hand}
 
 -- small numbers have a small sum
@@ -33,17 +36,15 @@ module _ (d : Desk) (sound : Sound d) where
   pub declined_few : d.declined + 1 < 2 ^ 64
   declined_few = omega (arith, taken_few, sound.orders)
 
-  pub carried_sound : (held o : Fields) → d.hand ≡ Some held → Sound (desk_carried d o)
-  carried_sound held o is = record {
+  pub ended_sound : (held o : Fields) (end : End) → d.hand ≡ Some held → Sound (desk_ended d o end)
+  ended_sound held o Carry is = record {
     orders = let h : in_hand d.hand ≡ 1 = ap in_hand is in omega (arith, sound.orders, h);
     few = sound.few;
     eight = sound.eight;
     small = sound.small;
     eight_sealed = sound.eight_sealed;
   }
-
-  pub declined_sound : (held : Fields) → d.hand ≡ Some held → Sound (desk_declined d)
-  declined_sound held is = record {
+  ended_sound held o Decline is = record {
     orders = let h : in_hand d.hand ≡ 1 = ap in_hand is in omega (arith, sound.orders, h);
     few = sound.few;
     eight = sound.eight;

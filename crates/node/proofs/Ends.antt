@@ -1,22 +1,36 @@
 -- Carry and decline. Assumes nothing.
-use Rattle.std.proofs.Common.{◌≡◌, ◌+◌, ◌^◌, ◌<◌, Bool, true, false, Some, None, Ok, Option, sym, refl, ap, ◌∙◌, subst}
+use Rattle.std.proofs.Common.{◌≡◌, ◌+◌, ◌^◌, ◌<◌, Bool, true, false, not, cond, Some, None, Ok, Option, sym, refl, ap, ◌∙◌, subst}
 use borrow.Author.Tests.{both_ways}
+use Rattle.std.specs.Option.{option_eq}
+use Rattle.refusals.specs.declared.Refusal.{Refusal}
 use Rattle.refusals.specs.declared.Refusal.TheVariants.{NotInHand}
 use Rattle.mac.specs.Face.{Face}
 use Rattle.node.specs.declared.Node.{Node}
 use Rattle.node.specs.declared.desk.Desk.{Desk}
 use Rattle.node.specs.declared.desk.Fields.{Fields}
-use Rattle.node.specs.Model.{Model, refused, with_desk}
-use Rattle.node.specs.Asking.{is_order}
-use Rattle.node.specs.Calls.{carry, decline, desk_carried, desk_declined}
+use Rattle.node.specs.declared.desk.End.{End}
+use Rattle.node.specs.declared.desk.End.TheVariants.{Carry, Decline}
+use Rattle.node.specs.Orders.{end_call, desk_ended}
+use Rattle.node.specs.Model.{Model, After, accepted, refused, unless, with_desk}
+use Rattle.node.specs.Asking.{same_order, is_order}
+use Rattle.node.specs.Calls.{guarded, carry, decline}
 use Rattle.node.specs.Stands.{Stands, Told, Sound}
-use Rattle.node.proofs.Counts.{carried_few, declined_few, carried_sound, declined_sound}
+use Rattle.node.proofs.Counts.{carried_few, declined_few, ended_sound}
 
 -- the order that is in hand
 held_of : (o : Fields) (hand : Option Fields) → is_order o hand ≡ true → (h : Fields) × (hand ≡ Some h)
 unfolding carry decline
 held_of o None e = absurd (both_ways _ refl e)
 held_of o (Some h) e = (h, refl)
+
+twice : (b : Bool) → b ≡ not (not b)
+twice true = refl
+twice false = refl
+
+-- fields that are compared one by one
+pub held_is : (eq : Fields → Fields → Bool) → ((a b : Fields) → eq a b ≡ same_order a b) → (hand : Option Fields) (o p : Fields) (b : Bool) → p ≡ o → b ≡ not (option_eq eq hand (Some p)) → is_order o hand ≡ not b
+held_is eq same None o p b h e = ap not (sym e)
+held_is eq same (Some k) o p b h e = ap (same_order k) (sym h) ∙ sym (same k p) ∙ twice (eq k p) ∙ ap not (sym e)
 
 module _ {H A : Type 0} (next : H → H) (f : Face) (n : Node H A) (m : Model) (st : Stands next f n m) where
   abbrev pub desk_written : H → Desk → Node H A
@@ -37,40 +51,39 @@ module _ {H A : Type 0} (next : H → H) (f : Face) (n : Node H A) (m : Model) (
     slot = st.slot;
   }
 
-  module _ (o : Fields) (b : Bool) (is : b ≡ is_order o n.desk.hand) where
-    asked : is_order o m.desk.hand ≡ b
-    asked = ap (λ (d : Desk). is_order o d.hand) (sym st.desk) ∙ sym is
+  -- a call that ends an order asks whether the node was made, and then whether the order is in hand
+  abbrev ask : Option Refusal → Bool → After Unit → After Unit
+  ask refusal held x = unless refusal m (unless (cond held None (Some NotInHand)) m x)
 
-    pub carry_other : b ≡ false → carry f m o ≡ refused m NotInHand
-    unfolding carry
-    carry_other e = rw (asked ∙ e)
+  ends_as : (end : End) (o : Fields) → guarded m (end_call f m end o) ≡ ask m.refusal (is_order o m.desk.hand) (accepted (tt {0}) (with_desk m (desk_ended m.desk o end)) 0)
+  unfolding carry decline
+  ends_as Carry o = refl
+  ends_as Decline o = refl
 
-    pub decline_other : b ≡ false → decline f m o ≡ refused m NotInHand
-    unfolding decline
-    decline_other e = rw (asked ∙ e)
+  module _ (end : End) (o : Fields) where
+    abbrev call : After Unit
+    call = guarded m (end_call f m end o)
 
-    pub carries : (d : Desk) → b ≡ true → (n.desk.carried + 1 < 2 ^ 64 → d ≡ desk_carried n.desk o) → Told next f n (desk_written n.hash d) (Ok (tt {0})) (carry f m o)
-    unfolding carry
-    carries d e made =
-        let h = held_of o m.desk.hand (asked ∙ e) in
-        let few : n.desk.carried + 1 < 2 ^ 64 = subst (λ (x : Desk). x.carried + 1 < 2 ^ 64) (sym st.desk) (carried_few m.desk st.sound) in
-        rw (asked ∙ e)
-        (record { answer = refl; model = desk_put n.hash d (desk_carried m.desk o) (made few ∙ ap (λ x. desk_carried x o) st.desk) (carried_sound m.desk st.sound h.0 o h.1); meter = refl })
+    abbrev done : After Unit
+    done = accepted (tt {0}) (with_desk m (desk_ended m.desk o end)) 0
 
-    pub declines : (d : Desk) → b ≡ true → (n.desk.declined + 1 < 2 ^ 64 → d ≡ desk_declined n.desk) → Told next f n (desk_written n.hash d) (Ok (tt {0})) (decline f m o)
-    unfolding carry decline
-    declines d e made =
-        let h = held_of o m.desk.hand (asked ∙ e) in
-        let few : n.desk.declined + 1 < 2 ^ 64 = subst (λ (x : Desk). x.declined + 1 < 2 ^ 64) (sym st.desk) (declined_few m.desk st.sound) in
-        rw (asked ∙ e)
-        (record { answer = refl; model = desk_put n.hash d (desk_declined m.desk) (made few ∙ ap desk_declined st.desk) (declined_sound m.desk st.sound h.0 h.1); meter = refl })
+    -- where the making was refused
+    pub ends_unmade : (e : Refusal) → n.refusal ≡ Some e → call ≡ refused m e
+    ends_unmade e is = ends_as end o ∙ ap (λ (r : Option Refusal). ask r (is_order o m.desk.hand) done) (sym st.refusal ∙ is)
 
-    -- of the order that was handed in
-    module _ (handed : Fields) (same : o ≡ handed) (d : Desk) (e : b ≡ true) where
-      pub carries_handed : (n.desk.carried + 1 < 2 ^ 64 → d ≡ desk_carried n.desk o) → Told next f n (desk_written n.hash d) (Ok (tt {0})) (carry f m handed)
-      unfolding carry
-      carries_handed made = subst (λ (x : Fields). Told next f n (desk_written n.hash d) (Ok (tt {0})) (carry f m x)) same (carries d e made)
+    module _ (made : n.refusal ≡ None) (b : Bool) (held : is_order o n.desk.hand ≡ b) where
+      asked : call ≡ ask None b done
+      asked = ends_as end o
+          ∙ ap (λ (r : Option Refusal). ask r (is_order o m.desk.hand) done) (sym st.refusal ∙ made)
+          ∙ ap (λ (k : Bool). ask None k done) (ap (λ (d : Desk). is_order o d.hand) (sym st.desk) ∙ held)
 
-      pub declines_handed : (n.desk.declined + 1 < 2 ^ 64 → d ≡ desk_declined n.desk) → Told next f n (desk_written n.hash d) (Ok (tt {0})) (decline f m handed)
-      unfolding decline
-      declines_handed made = subst (λ (x : Fields). Told next f n (desk_written n.hash d) (Ok (tt {0})) (decline f m x)) same (declines d e made)
+      pub ends_other : b ≡ false → call ≡ refused m NotInHand
+      ends_other e = asked ∙ ap (λ (k : Bool). ask None k done) e
+
+      pub ends : (d : Desk) → b ≡ true → (n.desk.carried + 1 < 2 ^ 64 → n.desk.declined + 1 < 2 ^ 64 → d ≡ desk_ended n.desk o end) → Told next f n (desk_written n.hash d) (Ok (tt {0})) call
+      ends d e written =
+          let h = held_of o n.desk.hand (held ∙ e) in
+          let sound : Sound n.desk = subst Sound (sym st.desk) st.sound in
+          let is : d ≡ desk_ended m.desk o end = written (carried_few n.desk sound) (declined_few n.desk sound) ∙ ap (λ (x : Desk). desk_ended x o end) st.desk in
+          subst (Told next f n (desk_written n.hash d) (Ok (tt {0}))) (sym (asked ∙ ap (λ (k : Bool). ask None k done) e))
+          (record { answer = refl; model = desk_put n.hash d (desk_ended m.desk o end) is (ended_sound m.desk st.sound h.0 o end (ap (λ (x : Desk). x.hand) (sym st.desk) ∙ h.1)); meter = refl })

@@ -1,5 +1,5 @@
 -- A frame that was sealed is taken by a node that is ready for it. Assumes nothing.
-use Rattle.std.proofs.Common.{◌≡◌, ℕ, ◌+◌, ◌-◌, ◌<◌, ◌≤◌, min, Bool, true, cond, not, eqb, ltb, leb, List, [], ◌∷◌, ◌++◌, length, get_or, take, drop, is_some, Some, None, Ok, Option, Result, unwrap_or, sym, refl, ap, ◌∙◌, subst, append_assoc, arith, length-append, ltb-true, lt-ltb, le-leb, leb-true}
+use Rattle.std.proofs.Common.{◌≡◌, ℕ, ◌+◌, ◌<◌, ◌≤◌, min, Bool, true, cond, not, eqb, ltb, leb, List, [], ◌∷◌, ◌++◌, length, get_or, take, drop, is_some, Some, None, Ok, Option, Result, unwrap_or, sym, refl, ap, ◌∙◌, subst, append_assoc, arith, length-append, ltb-true, lt-ltb, le-leb, leb-true}
 use Rattle.std.proofs.lemmas.List.{take_at}
 use Rattle.std.specs.Str.{bytes_eq}
 use Rattle.std.proofs.lemmas.Slice.Eq.{bytes_eq-Decides}
@@ -146,7 +146,7 @@ module _ (f : Face) (c : Model) (slot kind address n : ℕ) (body out0 out1 fram
   tag_long = sized (unwrap_or (key_at c slot) []) front c.t (fits none)
 
   -- the frame that was sealed, cut from the place that it was written to
-  pub cut_out : out1 ≡ sealed_frame f c slot kind body address ++ drop (length (sealed_frame f c slot kind body address)) out0 → frame ≡ take (min n (length out1) - 0) out1 → frame ≡ sealed_frame f c slot kind body address
+  pub cut_out : out1 ≡ sealed_frame f c slot kind body address ++ drop (length (sealed_frame f c slot kind body address)) out0 → frame ≡ take (min n (length out1)) out1 → frame ≡ sealed_frame f c slot kind body address
   unfolding S front
   cut_out isOut isFrame =
       let size : n ≡ 8 + length body + c.t = let e = asked_all.1 in cc in
@@ -157,7 +157,7 @@ module _ (f : Face) (c : Model) (slot kind address n : ℕ) (body out0 out1 fram
       let frontLong : length front ≡ 8 + length body = length-append (bytes_of_header h) body ∙ ap (λ (i : ℕ). i + length body) eight in
       let whole : length S ≡ n = length-append front T ∙ (omega arith) in
       let outLong : length out1 ≡ length S + length (drop (length S) out0) = ap length isOut ∙ length-append S (drop (length S) out0) in
-      let place : min n (length out1) - 0 ≡ length S = omega arith in
+      let place : min n (length out1) ≡ length S = omega arith in
       isFrame ∙ ap (λ (i : ℕ). take i out1) place ∙ ap (take (length S)) isOut ∙ take_at S (drop (length S) out0) (length S) refl
 
   pub handed : (l : Model) → address < 65536 → Ready c l slot address → (guarded l (take_frame f l (sealed_frame f c slot kind body address))).answer ≡ Ok (ordered c slot kind body)

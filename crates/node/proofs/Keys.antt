@@ -1,7 +1,7 @@
 -- Install and clear. Assumes nothing.
-use Rattle.std.proofs.Common.{◌≡◌, ℕ, ◌<◌, ◌≤◌, Bool, true, false, cond, List, length, get_or, Some, None, Ok, Err, refl, ap, arith, le-ltb, lt-ltb}
+use Rattle.std.proofs.Common.{◌≡◌, ℕ, ◌<◌, ◌≤◌, Bool, true, false, cond, List, [], length, get_or, Some, None, Ok, Err, Option, refl, ap, arith, le-ltb, lt-ltb}
 use Rattle.refusals.specs.declared.Refusal.{Refusal}
-use Rattle.refusals.specs.declared.Refusal.TheVariants.{KeyLength, NoSlot, SlotEmpty}
+use Rattle.refusals.specs.declared.Refusal.TheVariants.{KeyLength, NoSlot}
 use Rattle.mac.specs.Face.{Face, within}
 use Rattle.mac.specs.Promises.{Expanded}
 use Rattle.mac.specs.declared.KeyRecord.{KeyRecord}
@@ -9,7 +9,7 @@ use Rattle.node.specs.declared.Node.{Node}
 use Rattle.node.specs.Model.{Model, accepted, refused, unless, with_slot}
 use Rattle.node.specs.Calls.{install, clear}
 use Rattle.node.specs.Stands.{Stands, Told}
-use Rattle.node.proofs.Steps.{slot_written, hash_moved, hash_free, slot_put, key_held, key_absent}
+use Rattle.node.proofs.Steps.{slot_written, hash_moved, hash_free, slot_put, key_held, Asked_of, unkeyed}
 
 module _ {H A : Type 0} (next : H → H) (f : Face) (n : Node H A) (m : Model) (st : Stands next f n m) (s : ℕ) where
   pub install_no_slot : (key : List ℕ) → 8 ≤ s → install f m s key ≡ refused m NoSlot
@@ -35,13 +35,9 @@ module _ {H A : Type 0} (next : H → H) (f : Face) (n : Node H A) (m : Model) (
         from true q = absurd (made.made q).0
         from false q = let j = made.odd q in let is = j.0 in record { answer = ap Err (let same : e ≡ KeyLength = cc in same); model = hash_free next f n m st h1; meter = j.1 }
 
-  pub clear_no_slot : 8 ≤ s → clear f m s ≡ refused m NoSlot
+  pub clear_unkeyed : (e : Refusal) → Asked_of next f n m st s (Err e) → clear f m s ≡ refused m e
   unfolding clear
-  clear_no_slot ge = rw (le-ltb s 8 ge)
-
-  pub clear_empty : s < 8 → get_or n.slots s None ≡ None → clear f m s ≡ refused m SlotEmpty
-  unfolding clear
-  clear_empty s8 held = let e = key_absent next f n m st s s8 held in rw (lt-ltb s 8 s8, e)
+  clear_unkeyed e a = ap (λ (o : Option Refusal). unless o m (accepted (tt {0}) (with_slot m s None) 0)) (unkeyed next f n m st s e [] a)
 
   pub clears : s < 8 → length n.slots ≡ 8 → (r : KeyRecord) → get_or n.slots s None ≡ Some r → Told next f n (slot_written next f n m st n.hash s None) (Ok (tt {0})) (clear f m s)
   unfolding clear

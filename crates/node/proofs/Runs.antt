@@ -1,10 +1,11 @@
 -- The calls on lanes. Assumes nothing.
-use Rattle.std.proofs.Common.{◌≡◌, ℕ, ◌+◌, ◌-◌, ◌<◌, ◌≤◌, Bool, true, false, cond, eqb, leb, List, [], ◌++◌, length, get_or, drop, is_some, Some, None, Ok, Err, Option, Result, sym, refl, ap, ◌∙◌, subst, arith, le-ltb, lt-ltb, eq-eqb, leb-false, leb-true}
+use Rattle.std.proofs.Common.{◌≡◌, ℕ, ◌+◌, ◌-◌, ◌<◌, ◌≤◌, Bool, true, false, cond, not, eqb, leb, List, [], ◌∷◌, ◌++◌, length, get_or, set, drop, is_some, Some, None, Ok, Err, Option, Result, sym, refl, ap, ◌∙◌, subst, arith, le-ltb, lt-ltb, eq-eqb, leb-false, leb-true}
 use borrow.Author.Tests.{both_ways}
 use Rattle.std.proofs.lemmas.Bool.{ne_eqb}
 use Rattle.std.specs.Str.{bytes_eq}
 use Rattle.refusals.specs.declared.Refusal.{Refusal}
-use Rattle.refusals.specs.declared.Refusal.TheVariants.{NoLane, NoSlot, SlotEmpty, LaneBusy, NotBegun, MessageLength, Room, TagSize}
+use Rattle.refusals.specs.declared.Refusal.TheVariants.{NoLane, LaneBusy, NotBegun, MessageLength, Room, TagSize}
+use Rattle.refusals.specs.Questions.{asks}
 use Rattle.mac.specs.Face.{Face, Laws, within, free}
 use Rattle.mac.specs.Promises.{Added, Ended}
 use Rattle.mac.specs.declared.KeyRecord.{KeyRecord}
@@ -15,7 +16,7 @@ use Rattle.node.specs.Calls.{open_lane, feed, drop_lane, finish, judge, written,
 use Rattle.node.specs.Stands.{Stands, Told, LaneStands}
 use Rattle.node.specs.Asking.{joins}
 use Rattle.node.specs.Tags.{Compared}
-use Rattle.node.proofs.Steps.{lane_written, lane_kept, lane_put, key_held, key_absent}
+use Rattle.node.proofs.Steps.{lanes_are, lane_written, lane_kept, lane_put, key_held, Asked_of, unkeyed}
 
 module _ {H A : Type 0} (next : H → H) (f : Face) (laws : Laws f) (n : Node H A) (m : Model) (st : Stands next f n m) (l : ℕ) (d : Run) where
   -- the lane's run, as the node holds it
@@ -42,13 +43,9 @@ module _ {H A : Type 0} (next : H → H) (f : Face) (laws : Laws f) (n : Node H 
   unfolding open_lane
   open_no_lane s ge = rw (le-ltb l 4 ge)
 
-  pub open_no_slot : (s : ℕ) → l < 4 → 8 ≤ s → open_lane f m l s ≡ refused m NoSlot
+  pub open_unkeyed : (s : ℕ) (e : Refusal) → l < 4 → Asked_of next f n m st s (Err e) → open_lane f m l s ≡ refused m e
   unfolding open_lane
-  open_no_slot s l4 ge = rw (lt-ltb l 4 l4, le-ltb s 8 ge)
-
-  pub open_empty : (s : ℕ) → l < 4 → s < 8 → get_or n.slots s None ≡ None → open_lane f m l s ≡ refused m SlotEmpty
-  unfolding open_lane
-  open_empty s l4 s8 held = let e = key_absent next f n m st s s8 held in rw (lt-ltb l 4 l4, lt-ltb s 8 s8, e)
+  open_unkeyed s e l4 a = let q = unkeyed next f n m st s e (asks (not (is_some (fed_of (run_at m l)))) LaneBusy ∷ []) a in rw (lt-ltb l 4 l4, q)
 
   pub open_busy : (s : ℕ) (r : KeyRecord) → l < 4 → s < 8 → get_or n.slots s None ≡ Some r → run.begun ≡ true → open_lane f m l s ≡ refused m LaneBusy
   unfolding open_lane
@@ -185,16 +182,16 @@ module _ {H A : Type 0} (next : H → H) (f : Face) (laws : Laws f) (n : Node H 
         unless (cond (is_some (fed_of x)) (cond (eqb (length given) m.t) None (Some TagSize)) (Some NotBegun)) m
         (accepted (bytes_eq given (f.tag (key_of x) (bytes_of x) m.t)) (with_lane m l None) (f.whole (length (bytes_of x)) - f.held (length (bytes_of x))))
 
-    pub judges : (h1 : H) (run1 : Run) (v : Bool) → l < 4 → length n.lanes ≡ 4 → n.refusal ≡ None → run.begun ≡ true → length given ≡ n.t → run1 ≡ free →
-        Compared next f n.hash h1 run (length given) given v → Told next f n (lane_written next f n m st h1 l run1) (Ok v) (judge f m l given)
+    pub judges : (h1 : H) (run1 : Run) (lanes1 : List Run) (v : Bool) → l < 4 → length n.lanes ≡ 4 → n.refusal ≡ None → run.begun ≡ true → length given ≡ n.t → lanes1 ≡ set n.lanes l run1 → run1 ≡ free →
+        Compared next f n.hash h1 run (length given) given v → Told next f n (lanes_are next f n m st h1 lanes1) (Ok v) (judge f m l given)
     unfolding judge
-    judges h1 run1 v l4 len ready b eq isFree compared =
+    judges h1 run1 lanes1 v l4 len ready b eq put isFree compared =
         let o = begun_run l4 b in
         let is = o.1 in
         let same : length given ≡ m.t = eq ∙ st.t in
         let fit : within f.row.tag (length given) ≡ true = ap (within f.row.tag) same ∙ st.fits (sym st.refusal ∙ ready) in
         let j = compared o.0.key o.0.bytes o.2 fit refl in
-        rw (lt-ltb l 4 l4)
+        rw (put, lt-ltb l 4 l4)
         (subst (λ x. Told next f n (lane_written next f n m st h1 l run1) (Ok v) (judge_call x)) (sym is)
         (rw (eq-eqb (length given) m.t same)
         (record {

@@ -1,7 +1,6 @@
 -- Seal. Assumes nothing.
-use Rattle.std.proofs.Common.{◌≡◌, ℕ, ◌+◌, ◌^◌, ◌<◌, ◌≤◌, min, Bool, true, cond, List, [], ◌++◌, length, get_or, take, drop, is_some, Some, None, Ok, Err, Option, unwrap_or, sym, ap, ◌∙◌, subst, ⊎_elim, append_assoc, arith, length-append, length-drop, le-ltb, le-leb}
+use Rattle.std.proofs.Common.{◌≡◌, ℕ, ◌+◌, ◌^◌, ◌<◌, min, Bool, true, cond, List, [], ◌++◌, length, get_or, take, drop, is_some, Some, None, Ok, Err, Option, Result, unwrap_or, sym, ap, ◌∙◌, subst, append_assoc, arith, length-append, length-drop, le-leb}
 use Rattle.std.proofs.lemmas.List.{take_at, drop_at, drop-drop}
-use Rattle.std.proofs.lemmas.Bool.{cases_lt}
 use Rattle.hash.specs.Meter.{after}
 use Rattle.refusals.specs.declared.Refusal.{Refusal}
 use Rattle.refusals.specs.Questions.{first_refusal}
@@ -13,13 +12,13 @@ use Rattle.frame.proofs.Bytes.{header_length}
 use Rattle.node.specs.declared.Node.{Node}
 use Rattle.node.specs.declared.desk.Desk.{Desk}
 use Rattle.node.specs.Model.{Model, After, accepted, refused, unless, key_at, with_desk}
+use Rattle.node.specs.Asking.{command_q}
 use Rattle.node.specs.Calls.{seal, sealed_frame, next_number, desk_sealed}
 use Rattle.node.specs.Stands.{Stands, Told}
 use Rattle.node.specs.Taking.{sealing, AskedSeal, Behind}
-use Rattle.node.proofs.Steps.{key_held}
+use Rattle.node.proofs.Steps.{key_held, slot_asked}
 use Rattle.node.proofs.Counts.{sealed_sound}
 use Rattle.node.proofs.Ends.{desk_written, desk_put}
-use Rattle.node.proofs.Takes.{slot_same}
 
 module _ {H A : Type 0} (next : H → H) (f : Face) (n : Node H A) (m : Model) (st : Stands next f n m) (slot kind address : ℕ) (body out0 : List ℕ) where
   abbrev room : ℕ
@@ -28,20 +27,12 @@ module _ {H A : Type 0} (next : H → H) (f : Face) (n : Node H A) (m : Model) (
   abbrev asked_of : Bool → Desk → ℕ → Option Refusal
   asked_of keyed d t = first_refusal (sealing f slot keyed kind body (get_or d.sealed slot 0) t room)
 
-  -- a slot that is not there is refused whatever it would hold
-  keyed_same : (d : Desk) (t : ℕ) → asked_of (is_some (key_at m slot)) d t ≡ asked_of (is_some (get_or n.slots slot None)) d t
-  keyed_same d t =
-      ⊎_elim
-      (λ (lt : slot < 8). ap (λ (b : Bool). asked_of b d t) (slot_same f _ _ (st.slot slot None lt)))
-      (λ (ge : 8 ≤ slot). rw (le-ltb slot 8 ge))
-      (cases_lt slot 8)
-
   -- the questions of the node are those of what it stands for
   seal_asked : asked_of (is_some (key_at m slot)) m.desk m.t ≡ asked_of (is_some (get_or n.slots slot None)) n.desk n.t
   seal_asked =
       ap (λ (d : Desk). asked_of (is_some (key_at m slot)) d m.t) (sym st.desk)
       ∙ ap (λ (t : ℕ). asked_of (is_some (key_at m slot)) n.desk t) (sym st.t)
-      ∙ keyed_same n.desk n.t
+      ∙ slot_asked next f n m st slot (command_q f kind body (get_or n.desk.sealed slot 0) n.t room)
 
   abbrev done : After ℕ
   done = accepted (8 + length body + m.t) (with_desk m (desk_sealed m.desk slot)) (f.whole (8 + length body))
@@ -59,7 +50,7 @@ module _ {H A : Type 0} (next : H → H) (f : Face) (n : Node H A) (m : Model) (
 
   module _ (sized : (k b : List ℕ) (t : ℕ) → within f.row.tag t ≡ true → length (f.tag k b t) ≡ t) (ready : n.refusal ≡ None) (r : KeyRecord)
       (asked : AskedSeal f slot kind body n.t room n.slots n.desk.sealed (Ok r)) (number : ℕ) (is_number : number ≡ min (get_or n.desk.sealed slot 0 + 1) 4294967295)
-      (out1 : List ℕ) (laid : out1 ≡ front_laid slot kind address number body out0) (out2 : List ℕ) (h1 : H) (behind : Behind next f n.hash h1 r n.t (8 + length body) out1 out2)
+      (out1 : List ℕ) (laid : out1 ≡ front_laid slot kind address number body out0) (out2 : List ℕ) (h1 : H) (tagged : Result Unit Refusal) (behind : Behind next f n.hash h1 r n.t (8 + length body) out1 out2 tagged)
       (d : Desk) (made : get_or n.desk.sealed slot 0 + 1 < 2 ^ 32 → d ≡ desk_sealed n.desk slot) where
     abbrev size : ℕ
     size = 8 + length body
@@ -96,14 +87,15 @@ module _ {H A : Type 0} (next : H → H) (f : Face) (n : Node H A) (m : Model) (
     key : (k : List ℕ) × (get_or m.slots slot None ≡ Some k) × f.RecordStands r k
     key = key_held next f n m st slot r asked.2 asked.1
 
-    whole : (out2 ≡ front number ++ (f.tag key.0 (front number) m.t ++ drop (size + m.t) out0)) × (h1 ≡ after next n.hash (f.whole size))
+    whole : (tagged ≡ Ok tt) × (out2 ≡ front number ++ (f.tag key.0 (front number) m.t ++ drop (size + m.t) out0)) × (h1 ≡ after next n.hash (f.whole size))
     whole =
         let b = behind key.0 key.2 (ap (within f.row.tag) st.t ∙ fits) asked.6 (omega (arith, long_still, asked.4)) in (
-          b.0
+          b.0,
+          b.1
               ∙ ap (λ (x : List ℕ). x ++ (f.tag key.0 x n.t ++ drop (size + n.t) out1)) taken
               ∙ ap (λ (x : List ℕ). front number ++ (f.tag key.0 (front number) n.t ++ x)) (dropped n.t)
               ∙ ap (λ (t : ℕ). front number ++ (f.tag key.0 (front number) t ++ drop (size + t) out0)) st.t,
-          b.1,
+          b.2,
         )
 
     -- a frame over what was there
@@ -118,7 +110,7 @@ module _ {H A : Type 0} (next : H → H) (f : Face) (n : Node H A) (m : Model) (
 
     pub seals_written : out2 ≡ over (sealed_frame f m slot kind body address)
     seals_written =
-        whole.0
+        whole.1
         ∙ sym (append_assoc (front number) (f.tag key.0 (front number) m.t) (drop (size + m.t) out0))
         ∙ ap (λ (i : ℕ). frame_by key.0 number ++ drop i out0) (sym frame_long)
         ∙ ap (λ (i : ℕ). over (frame_by key.0 i)) number_is
@@ -131,5 +123,5 @@ module _ {H A : Type 0} (next : H → H) (f : Face) (n : Node H A) (m : Model) (
         (record {
           answer = ap (λ (t : ℕ). Ok (8 + length body + t)) st.t;
           model = desk_put next f n m st h1 d (desk_sealed m.desk slot) (made (omega (arith, asked.5)) ∙ ap (λ (x : Desk). desk_sealed x slot) st.desk) (sealed_sound m.desk st.sound slot);
-          meter = whole.1;
+          meter = whole.2;
         })

@@ -1,5 +1,5 @@
 -- Take. Assumes nothing.
-use Rattle.std.proofs.Common.{◌≡◌, ℕ, ◌+◌, ◌^◌, ◌<◌, ◌≤◌, Bool, true, false, List, [], length, get_or, is_some, Some, None, Ok, Err, Option, unwrap_or, sym, refl, ap, ◌∙◌, subst, arith}
+use Rattle.std.proofs.Common.{◌≡◌, ℕ, ◌+◌, ◌^◌, ◌<◌, ◌≤◌, Bool, true, false, List, [], length, get_or, is_some, IsErrAnd, Some, None, Ok, Err, Option, Result, unwrap_or, sym, refl, ap, ◌∙◌, subst, arith}
 use Rattle.std.specs.Str.{bytes_eq}
 use Rattle.hash.specs.Meter.{after}
 use Rattle.refusals.specs.declared.Refusal.{Refusal}
@@ -14,22 +14,22 @@ use Rattle.frame.proofs.Law.{parts}
 use Rattle.node.specs.declared.Node.{Node}
 use Rattle.node.specs.declared.desk.Desk.{Desk}
 use Rattle.node.specs.declared.desk.Fields.{Fields}
+use Rattle.node.specs.declared.order.Order.{Order}
+use Rattle.node.specs.Orders.{given}
 use Rattle.node.specs.Model.{Model, refused, unless, key_at}
 use Rattle.node.specs.Asking.{frame_q}
 use Rattle.node.specs.Calls.{take_frame, tried, right_tag, order_of, desk_taken}
-use Rattle.node.specs.Stands.{Stands, Told, SlotStands}
+use Rattle.node.specs.Stands.{Stands, Told}
 use Rattle.node.specs.Taking.{AskedFrame, Signed}
-use Rattle.node.proofs.Steps.{key_held, hash_moved, hash_free}
+use Rattle.node.proofs.Steps.{slot_same, key_held, hash_moved, hash_free}
 use Rattle.node.proofs.Counts.{taken_few, taken_sound}
 use Rattle.node.proofs.Ends.{desk_written, desk_put}
 use Rattle.node.proofs.Asked.{Fine, fine}
 
-pub slot_same : (f : Face) (x : Option KeyRecord) (y : Option (List ℕ)) → SlotStands f x y → is_some y ≡ is_some x
-unfolding take_frame
-slot_same f None None z = refl
-slot_same f None (Some k) z = absurd z
-slot_same f (Some r) None z = absurd z
-slot_same f (Some r) (Some k) z = refl
+-- a refusal is one whatever an order would be
+pub given_err : (r : Result Order Refusal) (e : Refusal) → IsErrAnd r (λ d. d ≡ e) → IsErrAnd (given r) (λ d. d ≡ e)
+given_err (Ok o) e is = is
+given_err (Err d) e is = is
 
 module _ {H A : Type 0} (next : H → H) (f : Face) (n : Node H A) (m : Model) (st : Stands next f n m) (frame : List ℕ) where
   abbrev slot : ℕ

@@ -47,7 +47,7 @@ module _ {H : Type 0} (next : H → H) (f : Face) (laws : Laws f) where
 
     -- the tag written behind the message
     pub tag_laid : (out : List ℕ) (size t : ℕ) (h2 : H) (run2 : Run) (re : Result Unit Refusal) (last : List ℕ) → piece ≡ take size out → size ≤ length out →
-        Ended next f h1 h2 run1 run2 t (take (length out - size) (drop size out)) last re → Behind next f h0 h2 r t size out (put_mid size (length out - size) out last)
+        Ended next f h1 h2 run1 run2 t (take (length out - size) (drop size out)) last re → Behind next f h0 h2 r t size out (put_mid size (length out - size) out last) re
     tag_laid out size t h2 run2 re last isPiece le ended = λ k s fits short room.
         let long : length piece ≡ size = ap length isPiece ∙ length-take-le size out le in
         let j = joins_all k s (omega (arith, long)) in
@@ -56,6 +56,7 @@ module _ {H : Type 0} (next : H → H) (f : Face) (laws : Laws f) where
         let e = ended.tagged k piece j.1 fits (omega (arith, ap length back, rest)) in
         let past : drop (length out - size) (drop size out) ≡ [] = drop_all (length out - size) (drop size out) (omega (arith, rest)) in
         let kept : drop t (take (length out - size) (drop size out)) ≡ drop (size + t) out = ap (drop t) back ∙ drop-drop t size out in (
+          e.0,
           ap (λ (x : List ℕ). take size out ++ (last ++ x)) past
               ∙ ap (λ (x : List ℕ). take size out ++ x)
               (append-nil last ∙ e.2 ∙ ap (λ (x : List ℕ). f.tag k x t ++ drop t (take (length out - size) (drop size out))) isPiece ∙ ap (λ (x : List ℕ). f.tag k (take size out) t ++ x) kept),

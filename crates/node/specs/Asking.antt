@@ -25,6 +25,10 @@ abbrev pub joins : ℕ → ℕ → Option ℕ → Bool
 joins most more None = true
 joins most more (Some n) = nat_le (n + more) most
 
+-- is there such a slot, and a key in it?
+abbrev pub slot_q : ℕ → Bool → List Question
+slot_q slot keyed = asks (nat_lt slot 8) NoSlot ∷ asks keyed SlotEmpty ∷ []
+
 module _ (f : Face) where
   -- of a hash with so many added words, a tag of t bytes and the node's own address
   abbrev pub making_q : ℕ → ℕ → ℕ → List Question
@@ -37,12 +41,15 @@ module _ (f : Face) where
   abbrev pub feed_q : ℕ → ℕ → Option ℕ → List Question
   feed_q lane size fed = asks (nat_lt lane 4) NoLane ∷ asks (is_some fed) NotBegun ∷ asks (joins f.row.message size fed) MessageLength ∷ []
 
-  -- a command for a slot that holds `key` and last sealed `last`: a kind and a body, into a place with room
+  -- a command for a slot that last sealed `last`: a kind and a body, into a place with room
+  abbrev pub command_q : ℕ → List ℕ → ℕ → ℕ → ℕ → List Question
+  command_q kind body last t room =
+      body_questions kind body ++
+      (asks (nat_le (8 + length body) f.row.message) MessageLength ∷ asks (nat_lt last 4294967295) NumbersSpent ∷ asks (nat_le (8 + length body + t) room) Room ∷ [])
+
+  -- the same for a slot that holds `key`
   abbrev pub seal_q : ℕ → Option (List ℕ) → ℕ → List ℕ → ℕ → ℕ → ℕ → List Question
-  seal_q slot key kind body last t room =
-      (asks (nat_lt slot 8) NoSlot ∷ asks (is_some key) SlotEmpty ∷ []) ++
-      (body_questions kind body ++
-      (asks (nat_le (8 + length body) f.row.message) MessageLength ∷ asks (nat_lt last 4294967295) NumbersSpent ∷ asks (nat_le (8 + length body + t) room) Room ∷ []))
+  seal_q slot key kind body last t room = slot_q slot (is_some key) ++ command_q kind body last t room
 
   -- a frame, before its tag is looked at: with the order in hand, the key that its slot holds and the last number taken there
   abbrev pub frame_q : Option Fields → List ℕ → ℕ → ℕ → Option (List ℕ) → ℕ → List Question
@@ -57,10 +64,10 @@ end_q hand o = asks (is_order o hand) NotInHand ∷ []
 
 -- a slot that holds `key`
 abbrev pub clear_q : ℕ → Option (List ℕ) → List Question
-clear_q slot key = asks (nat_lt slot 8) NoSlot ∷ asks (is_some key) SlotEmpty ∷ []
+clear_q slot key = slot_q slot (is_some key)
 
 abbrev pub open_q : ℕ → ℕ → Option (List ℕ) → Option ℕ → List Question
-open_q lane slot key fed = asks (nat_lt lane 4) NoLane ∷ asks (nat_lt slot 8) NoSlot ∷ asks (is_some key) SlotEmpty ∷ asks (not (is_some fed)) LaneBusy ∷ []
+open_q lane slot key fed = asks (nat_lt lane 4) NoLane ∷ (slot_q slot (is_some key) ++ (asks (not (is_some fed)) LaneBusy ∷ []))
 
 abbrev pub drop_q : ℕ → Option ℕ → List Question
 drop_q lane fed = asks (nat_lt lane 4) NoLane ∷ asks (is_some fed) NotBegun ∷ []

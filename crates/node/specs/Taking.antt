@@ -4,14 +4,14 @@ use Rattle.std.specs.Str.{bytes_eq}
 use Rattle.hash.specs.Meter.{after}
 use Rattle.refusals.specs.declared.Refusal.{Refusal}
 use Rattle.refusals.specs.Questions.{Question, asks, first_refusal}
-use Rattle.refusals.specs.declared.Refusal.TheVariants.{NoSlot, SlotEmpty, Address, MessageLength, OldNumber, NumbersSpent, Room}
+use Rattle.refusals.specs.declared.Refusal.TheVariants.{SlotEmpty, Address, MessageLength, OldNumber}
 use Rattle.mac.specs.Face.{Face, within}
 use Rattle.mac.specs.declared.KeyRecord.{KeyRecord}
 use Rattle.frame.specs.Layout.{signed_part, tag_in, header_of}
-use Rattle.frame.specs.Reading.{header_in, level_in, body_questions}
+use Rattle.frame.specs.Reading.{header_in, level_in}
 use Rattle.frame.specs.declared.Record.{Record}
 use Rattle.node.specs.declared.desk.Fields.{Fields}
-use Rattle.node.specs.Asking.{addressed, frame_q}
+use Rattle.node.specs.Asking.{addressed, slot_q, command_q, frame_q}
 use Rattle.node.specs.Calls.{order_of}
 
 -- the order of a frame that was read
@@ -44,10 +44,7 @@ Signed next f h0 h1 r frame same =
 
 -- the questions on a command: is there such a slot, and a key in it; the body's; is it short enough, is a number left, is there room?
 abbrev pub sealing : Face → ℕ → Bool → ℕ → List ℕ → ℕ → ℕ → ℕ → List Question
-sealing f slot keyed kind body last t room =
-    (asks (nat_lt slot 8) NoSlot ∷ asks keyed SlotEmpty ∷ []) ++
-    (body_questions kind body ++
-    (asks (nat_le (8 + length body) f.row.message) MessageLength ∷ asks (nat_lt last 4294967295) NumbersSpent ∷ asks (nat_le (8 + length body + t) room) Room ∷ []))
+sealing f slot keyed kind body last t room = slot_q slot keyed ++ command_q f kind body last t room
 
 -- an answer by the first no: where there is none, the key of the slot, and what it takes to write the frame
 abbrev pub AskedSeal : Face → ℕ → ℕ → List ℕ → ℕ → ℕ → List (Option KeyRecord) → List ℕ → Result KeyRecord Refusal → Type 0
@@ -58,7 +55,7 @@ AskedSeal f slot kind body t room slots sealed (Err e) =
     first_refusal (sealing f slot (is_some (slice_index_or slots slot None)) kind body (slice_index sealed slot) t room) ≡ Some e
 
 -- a tag of t bytes written behind the message that stands in the first n
-abbrev pub Behind : {H : Type 0} → (H → H) → Face → H → H → KeyRecord → ℕ → ℕ → List ℕ → List ℕ → Type 0
-Behind next f h0 h1 r t n out0 out1 =
+abbrev pub Behind : {H : Type 0} → (H → H) → Face → H → H → KeyRecord → ℕ → ℕ → List ℕ → List ℕ → Result Unit Refusal → Type 0
+Behind next f h0 h1 r t n out0 out1 result =
     (k : List ℕ) → f.RecordStands r k → within f.row.tag t ≡ true → n ≤ f.row.message → n + t ≤ length out0 →
-    (out1 ≡ take n out0 ++ (f.tag k (take n out0) t ++ drop (n + t) out0)) × (h1 ≡ after next h0 (f.whole n))
+    (result ≡ Ok tt) × (out1 ≡ take n out0 ++ (f.tag k (take n out0) t ++ drop (n + t) out0)) × (h1 ≡ after next h0 (f.whole n))

@@ -1,23 +1,21 @@
 // Tags compared over all their bytes, whatever the first difference.
 ghost use Rattle.std.specs.Prelude.{◌≡◌, ◌≤◌, length, take};
-ghost use Rattle.std.specs.Str.{bytes_eq};
 ghost use Rattle.mac.specs.Promises.{wiped};
-ghost use Rattle.node.specs.Tags.{Compared};
+ghost use Rattle.node.specs.Tags.{Compared, differences};
 ghost use Rattle.node.specs.Taking.{Signed, Behind};
 
 use hash::Hash;
 use mac::{Algorithm, KeyRecord, Run};
+use refusals::Refusal;
 
-// Are the given bytes the first ones of the block?
-fn same_front(block: &[u8; 64], given: &[u8]) -> bool
-    requires { length given.now ≤ 64 }
-    ensures { result ≡ bytes_eq given.now (take (length given.now) block.now) }
+// The bits in which the given bytes differ from the first ones of the block.
+fn differing(block: &[u8; 64], given: &[u8]) -> u8
+    ensures { result ≡ differences block.now given.now }
 {
-    let mut differing: u8 = 0;
-    for (i, x) in given.iter().enumerate() {
-        differing |= *x ^ block[i];
-    }
-    differing == 0
+    block
+        .iter()
+        .zip(given)
+        .fold(0, |bits, (x, y)| bits | (*x ^ *y))
 }
 
 // Closes a run and says whether the given bytes are its tag. The tag stands only in the work block, which the caller wipes. No tag is longer than the block.
@@ -30,10 +28,7 @@ pub(crate) fn is_tag<H: Hash, A: Algorithm<H>>(
     ensures { Compared H.Hash.next A.Algorithm.face hash.old hash.new run.old (length given.now) given.now result }
 {
     A::close(hash, run, work);
-    if given.len() > 64 {
-        return false;
-    }
-    same_front(work, given)
+    given.len() <= work.len() && differing(work, given) == 0
 }
 
 // Is a frame's tag that of its header and body, under the record's key? The tag stands only in the work block.
@@ -47,11 +42,7 @@ pub(crate) fn is_signed<H: Hash, A: Algorithm<H>>(
 {
     let (signed, tag) = frame::split_tag(frame);
     let mut run = A::begin(record);
-    let added = A::add(hash, &mut run, signed);
-    if added.is_err() {
-        return false;
-    }
-    is_tag::<H, A>(hash, &mut run, tag, work)
+    A::add(hash, &mut run, signed).is_ok() && is_tag::<H, A>(hash, &mut run, tag, work)
 }
 
 // Writes the tag of the first `size` bytes of `out` behind them.
@@ -62,15 +53,11 @@ pub(crate) fn tag_behind<H: Hash, A: Algorithm<H>>(
     size: usize,
     out: &mut [u8],
     work: &mut [u8; 64],
-)
+) -> Result<(), Refusal>
     requires { size ≤ length out.old }
-    ensures { Behind H.Hash.next A.Algorithm.face hash.old hash.new «record».now t size out.old out.new }
+    ensures { Behind H.Hash.next A.Algorithm.face hash.old hash.new «record».now t size out.old out.new result }
 {
     let mut run = A::begin(record);
-    let added = A::add(hash, &mut run, &out[0..size]);
-    if added.is_err() {
-        return;
-    }
-    let end = out.len();
-    let _ = A::end(hash, &mut run, t, &mut out[size..end], work);
+    A::add(hash, &mut run, &out[0..size])?;
+    A::end(hash, &mut run, t, &mut out[size..], work)
 }

@@ -26,14 +26,9 @@ fn seal_and_take<H: Hash, A: Algorithm<H>>(
     ensures numbered { IfOk result (λ taken. IfOk taken (λ o. 1 ≤ o.fields.number)) }
     ensures zeroed { work.new ≡ wiped }
 {
-    let sealed = cabinet.seal(slot, kind, body, address, frame, work);
-    match sealed {
-        Ok(n) => {
-            let end = n.min(frame.len());
-            Ok(lamp.take(&frame[0..end], work))
-        }
-        Err(e) => Err(e),
-    }
+    let sealed = cabinet.seal(slot, kind, body, address, frame, work)?;
+    let end = sealed.min(frame.len());
+    Ok(lamp.take(&frame[..end], work))
 }
 
 // Seals a command at one node and hands the frame to another. A lamp with the same tag length and key in that slot,

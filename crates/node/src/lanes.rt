@@ -16,27 +16,16 @@ impl<H: Hash, A: Algorithm<H>> Node<H, A> {
     pub fn open(&mut self, lane: usize, slot: usize) -> Result<(), Refusal>
         ensures { Obeys H.Hash.next A.Algorithm.face self.old self.new result (λ m. guarded m (open_lane A.Algorithm.face m lane slot)) }
     {
-        let refusal = self.refusal;
-        if let Some(e) = refusal {
-            return Err(e);
-        }
+        self.ready()?;
         self.begin_lane(lane, slot)
     }
 
     fn begin_lane(&mut self, lane: usize, slot: usize) -> Result<(), Refusal>
         ensures { Obeys H.Hash.next A.Algorithm.face self.old self.new result (λ m. open_lane A.Algorithm.face m lane slot) }
     {
-        if lane >= 4 {
-            return Err(Refusal::NoLane);
-        }
-        if slot >= 8 {
-            return Err(Refusal::NoSlot);
-        }
-        let held = self.slots[slot];
-        let Some(record) = held else {
-            return Err(Refusal::SlotEmpty);
-        };
-        if self.lanes[lane].begun {
+        let run = self.lane(lane)?;
+        let record = self.key_record(slot)?;
+        if run.begun {
             return Err(Refusal::LaneBusy);
         }
         self.lanes[lane] = A::begin(&record);
@@ -47,43 +36,30 @@ impl<H: Hash, A: Algorithm<H>> Node<H, A> {
     pub fn feed(&mut self, lane: usize, piece: &[u8]) -> Result<(), Refusal>
         ensures { Obeys H.Hash.next A.Algorithm.face self.old self.new result (λ m. guarded m (feed A.Algorithm.face m lane piece.now)) }
     {
-        let refusal = self.refusal;
-        if let Some(e) = refusal {
-            return Err(e);
-        }
+        self.ready()?;
         self.add_piece(lane, piece)
     }
 
     fn add_piece(&mut self, lane: usize, piece: &[u8]) -> Result<(), Refusal>
         ensures { Obeys H.Hash.next A.Algorithm.face self.old self.new result (λ m. feed A.Algorithm.face m lane piece.now) }
     {
-        if lane >= 4 {
-            return Err(Refusal::NoLane);
-        }
-        let mut run = self.lanes[lane];
-        let answer = A::add(&mut self.hash, &mut run, piece);
-        self.lanes[lane] = run;
-        answer
+        self.lane(lane)?;
+        A::add(&mut self.hash, &mut self.lanes[lane], piece)
     }
 
     // Frees a lane.
     pub fn drop_lane(&mut self, lane: usize) -> Result<(), Refusal>
         ensures { Obeys H.Hash.next A.Algorithm.face self.old self.new result (λ m. guarded m (drop_lane A.Algorithm.face m lane)) }
     {
-        let refusal = self.refusal;
-        if let Some(e) = refusal {
-            return Err(e);
-        }
+        self.ready()?;
         self.free_lane(lane)
     }
 
     fn free_lane(&mut self, lane: usize) -> Result<(), Refusal>
         ensures { Obeys H.Hash.next A.Algorithm.face self.old self.new result (λ m. drop_lane A.Algorithm.face m lane) }
     {
-        if lane >= 4 {
-            return Err(Refusal::NoLane);
-        }
-        if !self.lanes[lane].begun {
+        let run = self.lane(lane)?;
+        if !run.begun {
             return Err(Refusal::NotBegun);
         }
         self.lanes[lane] = free_run();
@@ -101,28 +77,18 @@ impl<H: Hash, A: Algorithm<H>> Node<H, A> {
         ensures written { (m : Model) → Stands H.Hash.next A.Algorithm.face self.old m → out.new ≡ written A.Algorithm.face m result (tag_at A.Algorithm.face m lane) out.old }
         ensures zeroed { work.new ≡ wiped }
     {
-        let refusal = self.refusal;
-        if let Some(e) = refusal {
-            *work = [0; 64];
-            return Err(e);
-        }
-        self.end_lane(lane, out, work)
+        let guard = Wipe { block: work };
+        self.ready()?;
+        self.end_lane(lane, out, guard.block)
     }
 
     fn end_lane(&mut self, lane: usize, out: &mut [u8], work: &mut [u8; 64]) -> Result<(), Refusal>
         requires { self.old.refusal ≡ None }
         ensures obeys { Obeys H.Hash.next A.Algorithm.face self.old self.new result (λ m. finish A.Algorithm.face m lane (length out.old)) }
         ensures written { (m : Model) → Stands H.Hash.next A.Algorithm.face self.old m → out.new ≡ written A.Algorithm.face m result (tag_at A.Algorithm.face m lane) out.old }
-        ensures zeroed { work.new ≡ wiped }
     {
-        let guard = Wipe { block: work };
-        if lane >= 4 {
-            return Err(Refusal::NoLane);
-        }
-        let mut run = self.lanes[lane];
-        let answer = A::end(&mut self.hash, &mut run, self.t, out, guard.block);
-        self.lanes[lane] = run;
-        answer
+        self.lane(lane)?;
+        A::end(&mut self.hash, &mut self.lanes[lane], self.t, out, work)
     }
 
     // Says whether the given bytes are the tag of the lane's, and frees the lane either way.
@@ -130,12 +96,9 @@ impl<H: Hash, A: Algorithm<H>> Node<H, A> {
         ensures obeys { Obeys H.Hash.next A.Algorithm.face self.old self.new result (λ m. guarded m (judge A.Algorithm.face m lane tag.now)) }
         ensures zeroed { work.new ≡ wiped }
     {
-        let refusal = self.refusal;
-        if let Some(e) = refusal {
-            *work = [0; 64];
-            return Err(e);
-        }
-        self.compare_lane(lane, tag, work)
+        let guard = Wipe { block: work };
+        self.ready()?;
+        self.compare_lane(lane, tag, guard.block)
     }
 
     fn compare_lane(
@@ -145,22 +108,17 @@ impl<H: Hash, A: Algorithm<H>> Node<H, A> {
         work: &mut [u8; 64],
     ) -> Result<bool, Refusal>
         requires { self.old.refusal ≡ None }
-        ensures obeys { Obeys H.Hash.next A.Algorithm.face self.old self.new result (λ m. judge A.Algorithm.face m lane tag.now) }
-        ensures zeroed { work.new ≡ wiped }
+        ensures { Obeys H.Hash.next A.Algorithm.face self.old self.new result (λ m. judge A.Algorithm.face m lane tag.now) }
     {
-        let guard = Wipe { block: work };
-        if lane >= 4 {
-            return Err(Refusal::NoLane);
-        }
-        let mut run = self.lanes[lane];
+        let run = self.lane(lane)?;
         if !run.begun {
             return Err(Refusal::NotBegun);
         }
         if tag.len() != self.t {
             return Err(Refusal::TagSize);
         }
-        let answer = is_tag::<H, A>(&mut self.hash, &mut run, tag, guard.block);
+        let right = is_tag::<H, A>(&mut self.hash, &mut self.lanes[lane], tag, work);
         self.lanes[lane] = free_run();
-        Ok(answer)
+        Ok(right)
     }
 }

@@ -3,12 +3,15 @@
 // node as found. What a call owes is said by what the node stands for (specs/).
 #![tactic(auto)]
 
-ghost use Rattle.std.specs.Prelude.{◌≡◌, ℕ, List, None};
+ghost use Rattle.std.specs.Prelude.{◌≡◌, ℕ, List, is_some, Some, None, MatchResult, slice_get, slice_index_or};
+ghost use Rattle.std.specs.Result.{result_err};
 ghost use Rattle.refusals.specs.Questions.{first_refusal};
+ghost use Rattle.refusals.specs.declared.Refusal.TheVariants.{NoLane};
 ghost use Rattle.node.specs.Model.{Model};
-ghost use Rattle.node.specs.Asking.{making_q};
-ghost use Rattle.node.specs.Calls.{new, desk_new};
+ghost use Rattle.node.specs.Asking.{making_q, slot_q};
+ghost use Rattle.node.specs.Calls.{new};
 ghost use Rattle.node.specs.Stands.{Stands};
+ghost use Rattle.node.specs.Taking.{Answered};
 
 pub use desk::{Desk, Fields};
 pub use handing::hand_over;
@@ -19,7 +22,6 @@ use refusals::Refusal;
 pub use replay::{Answer, Call, Outcome, Replay, Report, SealedFrame};
 use std::marker::PhantomData;
 
-mod books;
 mod compare;
 mod desk;
 mod handing;
@@ -29,11 +31,18 @@ mod orders;
 mod replay;
 mod slots;
 
+const SLOTS: usize = 8;
+
+const LANES: usize = 4;
+
+// The address that every node listens to, and none has.
+const EVERYBODY: u16 = 65535;
+
 #[derive(Drop)]
 pub struct Node<H: Hash, A: Algorithm<H>> {
     hash: H,
-    slots: [Option<KeyRecord>; 8],
-    lanes: [Run; 4],
+    slots: [Option<KeyRecord>; SLOTS],
+    lanes: [Run; LANES],
     desk: Desk,
     t: usize,
     address: u16,
@@ -51,24 +60,10 @@ fn making_refusal<H: Hash, A: Algorithm<H>>(t: usize, address: u16) -> Option<Re
     if !A::row_of().tag.has(t) {
         return Some(Refusal::TagLength);
     }
-    if address > 65534 {
+    if address == EVERYBODY {
         return Some(Refusal::OwnAddress);
     }
     None
-}
-
-fn new_desk() -> Desk
-    ensures { result ≡ desk_new }
-{
-    Desk {
-        level: 100,
-        taken: 0,
-        carried: 0,
-        declined: 0,
-        took: [0; 8],
-        sealed: [0; 8],
-        hand: None,
-    }
 }
 
 impl<H: Hash, A: Algorithm<H>> Node<H, A> {
@@ -78,18 +73,41 @@ impl<H: Hash, A: Algorithm<H>> Node<H, A> {
         ensures hash { result.hash ≡ hash }
     {
         let refusal = making_refusal::<H, A>(t, address);
-        let free = free_run();
-        let desk = new_desk();
         Node {
             hash,
-            slots: [None; 8],
-            lanes: [free; 4],
-            desk,
+            slots: [None; SLOTS],
+            lanes: [free_run(); LANES],
+            desk: Desk::new(),
             t,
             address,
             refusal,
             algorithm: PhantomData,
         }
+    }
+
+    // Where the making was refused, so is every call.
+    fn ready(&self) -> Result<(), Refusal>
+        ensures { result_err result ≡ self.now.refusal }
+    {
+        match self.refusal {
+            Some(e) => Err(e),
+            None => Ok(()),
+        }
+    }
+
+    // The key record of a slot, by questions 7 and 8.
+    fn key_record(&self, slot: usize) -> Result<KeyRecord, Refusal>
+        ensures { Answered (first_refusal (slot_q slot (is_some (slice_index_or self.now.slots slot None)))) (slice_index_or self.now.slots slot None) result }
+    {
+        let held = self.slots.get(slot).ok_or(Refusal::NoSlot)?;
+        held.ok_or(Refusal::SlotEmpty)
+    }
+
+    // The run of a lane, by question 9.
+    fn lane(&self, lane: usize) -> Result<&Run, Refusal>
+        ensures { MatchResult result (λ run. slice_get self.now.lanes lane ≡ Some run.now) (λ e. (slice_get self.now.lanes lane ≡ None) × (e ≡ NoLane)) }
+    {
+        self.lanes.get(lane).ok_or(Refusal::NoLane)
     }
 
     // Why the making was refused, if it was.

@@ -6,13 +6,13 @@ ghost use Rattle.node.specs.Model.{Model};
 ghost use Rattle.node.specs.Calls.{guarded, seal, sealed_frame, written, take_frame, carry, decline};
 ghost use Rattle.node.specs.Stands.{Stands, Obeys};
 ghost use Rattle.node.specs.Taking.{further, Answered, AskedFrame, AskedSeal};
-ghost use Rattle.node.specs.Orders.{given, ended, GivenBack};
+ghost use Rattle.node.specs.Orders.{given, ended, GivenBack, end_call};
 
-use crate::Node;
-use crate::books::{after_carry, after_decline, after_seal, after_take, fields_of, is_in_hand};
 use crate::compare::{is_signed, tag_behind};
-use crate::desk::Fields;
+use crate::desk::{End, Fields};
 use crate::order::Order;
+use crate::{EVERYBODY, Node};
+use frame::HEADER_BYTES;
 use hash::Hash;
 use mac::{Algorithm, KeyRecord, Wipe};
 use refusals::Refusal;
@@ -32,12 +32,9 @@ impl<H: Hash, A: Algorithm<H>> Node<H, A> {
         ensures written { (m : Model) → Stands H.Hash.next A.Algorithm.face self.old m → out.new ≡ written A.Algorithm.face m result (sealed_frame A.Algorithm.face m slot kind body.now address) out.old }
         ensures zeroed { work.new ≡ wiped }
     {
-        let refusal = self.refusal;
-        if let Some(e) = refusal {
-            *work = [0; 64];
-            return Err(e);
-        }
-        self.seal_frame(slot, kind, body, address, out, work)
+        let guard = Wipe { block: work };
+        self.ready()?;
+        self.seal_frame(slot, kind, body, address, out, guard.block)
     }
 
     fn seal_frame(
@@ -52,22 +49,14 @@ impl<H: Hash, A: Algorithm<H>> Node<H, A> {
         requires { self.old.refusal ≡ None }
         ensures obeys { Obeys H.Hash.next A.Algorithm.face self.old self.new result (λ m. seal A.Algorithm.face m slot kind body.now (length out.old)) }
         ensures written { (m : Model) → Stands H.Hash.next A.Algorithm.face self.old m → out.new ≡ written A.Algorithm.face m result (sealed_frame A.Algorithm.face m slot kind body.now address) out.old }
-        ensures zeroed { work.new ≡ wiped }
     {
-        let guard = Wipe { block: work };
-        let asked = self.ask_seal(slot, kind, body, out.len());
-        match asked {
-            Ok(record) => {
-                let size = 8 + body.len();
-                let number = self.desk.sealed[slot].saturating_add(1);
-                let _ = frame::write_front(slot as u8, kind, address, number, body, out);
-                tag_behind::<H, A>(&mut self.hash, &record, self.t, size, out, guard.block);
-                let desk = self.desk;
-                self.desk = after_seal(desk, slot);
-                Ok(size + self.t)
-            }
-            Err(e) => Err(e),
-        }
+        let record = self.ask_seal(slot, kind, body, out.len())?;
+        let number = self.desk.sealed[slot].saturating_add(1);
+        frame::write_front(slot as u8, kind, address, number, body, out)?;
+        let size = HEADER_BYTES + body.len();
+        tag_behind::<H, A>(&mut self.hash, &record, self.t, size, out, work)?;
+        self.desk.seal(slot);
+        Ok(size + self.t)
     }
 
     // The questions on a command: 7, 8, those of the body, 5, 15 and 6. Where none is answered no: the key of the slot.
@@ -80,21 +69,16 @@ impl<H: Hash, A: Algorithm<H>> Node<H, A> {
     ) -> Result<KeyRecord, Refusal>
         ensures { AskedSeal A.Algorithm.face slot kind body.now self.now.t room self.now.slots self.now.desk.sealed result }
     {
-        if slot >= 8 {
-            return Err(Refusal::NoSlot);
-        }
-        let held = self.slots[slot];
-        let Some(record) = held else {
-            return Err(Refusal::SlotEmpty);
-        };
+        let record = self.key_record(slot)?;
         frame::check_body(kind, body)?;
-        if 8 + body.len() > A::row_of().message {
+        let size = HEADER_BYTES + body.len();
+        if size > A::row_of().message {
             return Err(Refusal::MessageLength);
         }
-        if self.desk.sealed[slot] == 4294967295 {
+        if self.desk.sealed[slot] == u32::MAX {
             return Err(Refusal::NumbersSpent);
         }
-        if room < 8 + body.len() || room - (8 + body.len()) < self.t {
+        if room < size || room - size < self.t {
             return Err(Refusal::Room);
         }
         Ok(record)
@@ -106,33 +90,22 @@ impl<H: Hash, A: Algorithm<H>> Node<H, A> {
         ensures numbered { IfOk result (λ o. 1 ≤ o.fields.number) }
         ensures zeroed { work.new ≡ wiped }
     {
-        let refusal = self.refusal;
-        if let Some(e) = refusal {
-            *work = [0; 64];
-            return Err(e);
-        }
-        self.take_order(frame, work)
+        let guard = Wipe { block: work };
+        self.ready()?;
+        self.take_order(frame, guard.block)
     }
 
     fn take_order(&mut self, frame: &[u8], work: &mut [u8; 64]) -> Result<Order, Refusal>
         requires { self.old.refusal ≡ None }
         ensures obeys { Obeys H.Hash.next A.Algorithm.face self.old self.new (given result) (λ m. take_frame A.Algorithm.face m frame.now) }
         ensures numbered { IfOk result (λ o. 1 ≤ o.fields.number) }
-        ensures zeroed { work.new ≡ wiped }
     {
-        let guard = Wipe { block: work };
-        let asked = self.ask_frame(frame);
-        match asked {
-            Ok((fields, record)) => {
-                if !is_signed::<H, A>(&mut self.hash, &record, frame, guard.block) {
-                    return Err(Refusal::WrongTag);
-                }
-                let desk = self.desk;
-                self.desk = after_take(desk, fields);
-                Ok(Order { fields })
-            }
-            Err(e) => Err(e),
+        let (fields, record) = self.ask_frame(frame)?;
+        if !is_signed::<H, A>(&mut self.hash, &record, frame, work) {
+            return Err(Refusal::WrongTag);
         }
+        self.desk.take(fields);
+        Ok(Order { fields })
     }
 
     // The questions on a frame before its tag is looked at: 21, the reader's, and those that follow. Where none is answered
@@ -143,18 +116,10 @@ impl<H: Hash, A: Algorithm<H>> Node<H, A> {
         if self.desk.hand.is_some() {
             return Err(Refusal::OrderInHand);
         }
-        let read = frame::read_record(frame, self.t);
-        match read {
-            Ok(told) => {
-                let fields = fields_of(told);
-                let further = self.ask_further(fields, told.header().address);
-                match further {
-                    Ok(record) => Ok((fields, record)),
-                    Err(e) => Err(e),
-                }
-            }
-            Err(e) => Err(e),
-        }
+        let read = frame::read_record(frame, self.t)?;
+        let fields = Fields::from(read);
+        let record = self.ask_further(fields, read.header().address)?;
+        Ok((fields, record))
     }
 
     // The questions that follow the reader's: 8, 18, 5 and 19. Where none is answered no: the key of the slot.
@@ -163,14 +128,11 @@ impl<H: Hash, A: Algorithm<H>> Node<H, A> {
         ensures { Answered (first_refusal (further A.Algorithm.face (is_some (slice_index_or self.now.slots order.slot None)) self.now.address address order.size (slice_index self.now.desk.took order.slot) order.number)) (slice_index_or self.now.slots order.slot None) result }
     {
         let slot = usize::from(order.slot);
-        let held = self.slots[slot];
-        let Some(record) = held else {
-            return Err(Refusal::SlotEmpty);
-        };
-        if address != self.address && address != 65535 {
+        let record = self.key_record(slot)?;
+        if address != self.address && address != EVERYBODY {
             return Err(Refusal::Address);
         }
-        if 8 + usize::from(order.size) > A::row_of().message {
+        if HEADER_BYTES + usize::from(order.size) > A::row_of().message {
             return Err(Refusal::MessageLength);
         }
         if order.number <= self.desk.took[slot] {
@@ -184,24 +146,7 @@ impl<H: Hash, A: Algorithm<H>> Node<H, A> {
         ensures obeys { Obeys H.Hash.next A.Algorithm.face self.old self.new (ended result) (λ m. guarded m (carry A.Algorithm.face m order.fields)) }
         ensures back { GivenBack result order.fields }
     {
-        let refusal = self.refusal;
-        if let Some(e) = refusal {
-            return Err((e, order));
-        }
-        self.carry_order(order)
-    }
-
-    fn carry_order(&mut self, order: Order) -> Result<(), (Refusal, Order)>
-        ensures obeys { Obeys H.Hash.next A.Algorithm.face self.old self.new (ended result) (λ m. carry A.Algorithm.face m order.fields) }
-        ensures back { GivenBack result order.fields }
-    {
-        let fields = order.into_fields();
-        let desk = self.desk;
-        if !is_in_hand(desk.hand, fields) {
-            return Err((Refusal::NotInHand, Order { fields }));
-        }
-        self.desk = after_carry(desk, fields);
-        Ok(())
+        self.end_order(order, End::Carry)
     }
 
     // Declines the order. One that is not in hand is given back.
@@ -209,23 +154,20 @@ impl<H: Hash, A: Algorithm<H>> Node<H, A> {
         ensures obeys { Obeys H.Hash.next A.Algorithm.face self.old self.new (ended result) (λ m. guarded m (decline A.Algorithm.face m order.fields)) }
         ensures back { GivenBack result order.fields }
     {
-        let refusal = self.refusal;
-        if let Some(e) = refusal {
-            return Err((e, order));
-        }
-        self.decline_order(order)
+        self.end_order(order, End::Decline)
     }
 
-    fn decline_order(&mut self, order: Order) -> Result<(), (Refusal, Order)>
-        ensures obeys { Obeys H.Hash.next A.Algorithm.face self.old self.new (ended result) (λ m. decline A.Algorithm.face m order.fields) }
+    fn end_order(&mut self, order: Order, end: End) -> Result<(), (Refusal, Order)>
+        ensures obeys { Obeys H.Hash.next A.Algorithm.face self.old self.new (ended result) (λ m. guarded m (end_call A.Algorithm.face m end order.fields)) }
         ensures back { GivenBack result order.fields }
     {
-        let fields = order.into_fields();
-        let desk = self.desk;
-        if !is_in_hand(desk.hand, fields) {
-            return Err((Refusal::NotInHand, Order { fields }));
+        if let Err(e) = self.ready() {
+            return Err((e, order));
         }
-        self.desk = after_decline(desk);
+        if self.desk.hand != Some(order.fields()) {
+            return Err((Refusal::NotInHand, order));
+        }
+        self.desk.end(order.into_fields(), end);
         Ok(())
     }
 }

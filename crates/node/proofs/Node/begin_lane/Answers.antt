@@ -1,23 +1,36 @@
-use Rattle.std.proofs.Common.{◌≡◌, length, rules}
+use Rattle.std.proofs.Common.{◌≡◌, length, ap, ◌∙◌, rules}
 use Rattle.mac.specs.Face.{free}
-use Rattle.node.proofs.Steps.{obeys_refused}
-use Rattle.node.proofs.Runs.{open_no_lane, open_no_slot, open_empty, open_busy, opens}
+use Rattle.mac.specs.declared.Run.{Run}
+use Rattle.node.proofs.Steps.{obeys_refused, obeys_err, obeys_no_lane, keyed, lane_there}
+use Rattle.node.proofs.Runs.{open_no_lane, open_unkeyed, open_busy, opens}
 use Rattle.node.proofs.Node.begin_lane.Goals as goal
 
-pub returns-then-lane-ge4 : goal.returns-then-lane-ge4
-returns-then-lane-ge4 g c = obeys_refused g.H.Hash.next g.A.Algorithm.face c.args.self.now _ _ (λ m st. open_no_lane g.H.Hash.next g.A.Algorithm.face g.A.Algorithm.laws c.args.self.now m st c.args.lane free c.args.slot c.if-lane-ge4.true)
-
-pub returns-then-slot-ge8 : goal.returns-then-slot-ge8
-returns-then-slot-ge8 g c = obeys_refused g.H.Hash.next g.A.Algorithm.face c.args.self.now _ _ (λ m st. open_no_slot g.H.Hash.next g.A.Algorithm.face g.A.Algorithm.laws c.args.self.now m st c.args.lane free c.args.slot c.if-lane-ge4.false c.if-slot-ge8.true)
-
-pub returns-in_default : goal.returns-in_default
-returns-in_default g c = obeys_refused g.H.Hash.next g.A.Algorithm.face c.args.self.now _ _ (λ m st. open_empty g.H.Hash.next g.A.Algorithm.face g.A.Algorithm.laws c.args.self.now m st c.args.lane free c.args.slot c.if-lane-ge4.false c.if-slot-ge8.false c.in_default.is)
-
-pub returns-then-self-lane : goal.returns-then-self-lane
-returns-then-self-lane g c = obeys_refused g.H.Hash.next g.A.Algorithm.face c.args.self.now _ _ (λ m st. open_busy g.H.Hash.next g.A.Algorithm.face g.A.Algorithm.laws c.args.self.now m st c.args.lane _ c.args.slot c.in-Some.record c.if-lane-ge4.false c.if-slot-ge8.false c.in-Some.is c.if-self-lane.true)
-
-pub returns : goal.returns
-returns g c =
+pub returns-in_err-run : goal.returns-in_err-run
+returns-in_err-run g c =
     let n = c.args.self.now in
     let l4 : length n.lanes ≡ 4 = search rules in
-    λ m st. opens g.H.Hash.next g.A.Algorithm.face g.A.Algorithm.laws n m st c.args.lane _ c.args.slot c.in-Some.record _ c.if-lane-ge4.false c.if-slot-ge8.false l4 c.in-Some.is c.if-self-lane.false c.begin.ensures
+    obeys_no_lane g.H.Hash.next g.A.Algorithm.face n _ _ _ c.args.lane c.from_residual.ensures.1 l4 c.in_err-run.ensures (λ m st. open_no_lane g.H.Hash.next g.A.Algorithm.face g.A.Algorithm.laws n m st c.args.lane free c.args.slot)
+
+pub returns-in_err-record : goal.returns-in_err-record
+returns-in_err-record g c =
+    let n = c.args.self.now in
+    let l4 : length n.lanes ≡ 4 = search rules in
+    let t = lane_there n.lanes c.args.lane _ l4 c.in_ok-run.ensures in
+    obeys_err g.H.Hash.next g.A.Algorithm.face n _ _ _ c.from_residual-in_err-record.ensures.1 (λ m st. open_unkeyed g.H.Hash.next g.A.Algorithm.face g.A.Algorithm.laws n m st c.args.lane free c.args.slot _ t.0 c.in_err-record.ensures)
+
+pub returns-then-run : goal.returns-then-run
+returns-then-run g c =
+    let n = c.args.self.now in
+    let l4 : length n.lanes ≡ 4 = search rules in
+    let t = lane_there n.lanes c.args.lane _ l4 c.in_ok-run.ensures in
+    obeys_refused g.H.Hash.next g.A.Algorithm.face n _ _ (λ m st.
+    let k = keyed g.H.Hash.next g.A.Algorithm.face n m st c.args.slot _ c.in_ok-record.ensures in
+    open_busy g.H.Hash.next g.A.Algorithm.face g.A.Algorithm.laws n m st c.args.lane free c.args.slot _ t.0 k.0 k.1 (ap (λ (r : Run). r.begun) (t.1 _) ∙ c.if-run.true))
+
+pub returns : goal.returns
+returns g c = λ m st.
+    let n = c.args.self.now in
+    let l4 : length n.lanes ≡ 4 = search rules in
+    let t = lane_there n.lanes c.args.lane _ l4 c.in_ok-run.ensures in
+    let k = keyed g.H.Hash.next g.A.Algorithm.face n m st c.args.slot _ c.in_ok-record.ensures in
+    opens g.H.Hash.next g.A.Algorithm.face g.A.Algorithm.laws n m st c.args.lane free c.args.slot _ _ t.0 k.0 l4 k.1 (ap (λ (r : Run). r.begun) (t.1 _) ∙ c.if-run.false) c.begin.ensures

@@ -1,5 +1,6 @@
 -- An order that was taken is in hand, so that its end is never refused. Assumes nothing.
-use Rattle.std.proofs.Common.{◌≡◌, ℕ, Bool, true, false, cond, List, get_or, is_ok, Some, None, Ok, Err, Option, Result, sym, refl, ap, ◌∙◌, subst, arith, eq-eqb}
+use Rattle.std.proofs.Common.{◌≡◌, ℕ, Bool, true, false, cond, leb, List, get_or, is_ok, MatchResult, Some, None, Ok, Err, Option, Result, sym, refl, ap, ◌∙◌, subst, arith, eq-eqb}
+use borrow.Author.Tests.{both_ways}
 use Rattle.refusals.specs.declared.Refusal.{Refusal}
 use Rattle.refusals.specs.declared.Refusal.TheVariants.{NotInHand}
 use Rattle.refusals.specs.Questions.{first_refusal}
@@ -13,7 +14,7 @@ use Rattle.node.specs.Model.{Model, After, accepted, unless, key_at, with_desk}
 use Rattle.node.specs.Asking.{same_order, frame_q}
 use Rattle.node.specs.Calls.{guarded, take_frame, tried, right_tag, carry, decline, desk_taken, desk_carried, desk_declined, order_of}
 use Rattle.node.specs.Stands.{Stands, Told, Obeys}
-use Rattle.node.specs.Orders.{ended}
+use Rattle.node.specs.Orders.{given, ended}
 use Rattle.caller.specs.Spending.{desk_ended, ends, spent}
 
 same_self : (o : Fields) → same_order o o ≡ true
@@ -23,8 +24,13 @@ ok_of : (r : Result Unit (Refusal × Order)) → ended r ≡ Ok tt → is_ok r �
 ok_of (Ok u) e = refl
 ok_of (Err x) e = let z : ◌≡◌ {A = ℕ} 0 1 = cc in absurd (omega (arith, z))
 
-pub not_refused : (r : Result Unit (Refusal × Order)) (x : Refusal × Order) → is_ok r ≡ true → r ≡ Err x → ⊥
-not_refused r x ok e = let z : false ≡ true = sym (ap is_ok e) ∙ ok in let y : ◌≡◌ {A = ℕ} 0 1 = ap (λ (b : Bool). cond b 1 0) z in omega (arith, y)
+-- what was kept by a change of the error alone
+pub ok_before : {X E : Type 0} (D : Type 0) (r : Result X E) (x : X) → MatchResult r (λ y. ◌≡◌ {A = Result X D} (Ok x) (Ok y)) (λ e. ⊥) → r ≡ Ok x
+ok_before D (Ok y) x e = cc
+ok_before D (Err d) x e = absurd e
+
+pub not_refused : {X D E : Type 0} (r : Result X E) (s : Result X D) (d : D) → is_ok r ≡ true → is_ok s ≡ is_ok r → s ≡ Err d → ⊥
+not_refused r s d ok same is = both_ways _ (ap is_ok is) (same ∙ ok)
 
 module _ (f : Face) (m : Model) (frame : List ℕ) where
   -- the first no of a take
@@ -42,11 +48,6 @@ module _ (f : Face) (m : Model) (frame : List ℕ) where
 module _ {H A : Type 0} (next : H → H) (f : Face) (carries : Fields → Bool) (n0 n1 : Node H A) (frame : List ℕ) (m : Model) (st : Stands next f n0 m) where
   abbrev a : After Fields
   a = guarded m (take_frame f m frame)
-
-  pub refused_told : (e : Refusal) → Obeys next f n0 n1 (Err e) (λ x. guarded x (take_frame f x frame)) → Told next f n0 n1 (Err e) (spent carries f m frame)
-  refused_told e obeys =
-      let told = obeys m st in
-      subst (λ (r : Result Fields Refusal). Told next f n0 n1 (Err e) (ends carries a r)) told.answer (record { answer = refl; model = told.model; meter = told.meter })
 
   module _ (o : Fields) (obeys : Obeys next f n0 n1 (Ok o) (λ x. guarded x (take_frame f x frame))) where
     abbrev m1 : Model
@@ -75,11 +76,20 @@ module _ {H A : Type 0} (next : H → H) (f : Face) (carries : Fields → Bool) 
       closed false ob = subst (Told next f n1 n2 (ended r)) (end_is (desk_declined m1.desk)) (ob m1 stands1)
 
       -- the end was not refused, and both calls together are what the caller owes
-      pub ended_told : Obeys next f n1 n2 (ended r) (λ x. guarded x (cond (carries o) (carry f x o) (decline f x o))) → (is_ok r ≡ true) × Told next f n0 n2 (Ok (carries o)) (spent carries f m frame)
-      ended_told ob =
+      pub ended_told : (b : Bool) → carries o ≡ b → Obeys next f n1 n2 (ended r) (λ x. guarded x (cond b (carry f x o) (decline f x o))) → (is_ok r ≡ true) × Told next f n0 n2 (Ok b) (spent carries f m frame)
+      ended_told b is ob =
           let told = obeys m st in
-          let by = closed (carries o) ob in (
+          let by = closed b ob in (
             ok_of r by.answer,
-            subst (λ (x : Result Fields Refusal). Told next f n0 n2 (Ok (carries o)) (ends carries a x)) told.answer
-                (record { answer = refl; model = subst (λ (x : Model). Stands next f n2 (with_desk x (desk_ended x.desk o (carries o)))) (sym known.1) by.model; meter = by.meter ∙ told.meter }),
+            subst (λ (x : Result Fields Refusal). Told next f n0 n2 (Ok b) (ends carries a x)) told.answer
+                (subst (λ (c : Bool). Told next f n0 n2 (Ok b) (accepted c (with_desk a.model (desk_ended a.model.desk o c)) a.rounds)) (sym is)
+                (record { answer = refl; model = subst (λ (x : Model). Stands next f n2 (with_desk x (desk_ended x.desk o b))) (sym known.1) by.model; meter = by.meter ∙ told.meter })),
           )
+
+-- the same of the rule that a level is at most `most`, and of fields that were looked at
+pub ended_by : {H A : Type 0} (next : H → H) (f : Face) (most : ℕ) (n0 n1 : Node H A) (frame : List ℕ) (m : Model) (st : Stands next f n0 m) (taken : Result Order Refusal) (order : Order) (o : Fields) → o ≡ order.fields → taken ≡ Ok order →
+    Obeys next f n0 n1 (given taken) (λ x. guarded x (take_frame f x frame)) → (n2 : Node H A) (r : Result Unit (Refusal × Order)) (b : Bool) → leb o.level most ≡ b →
+    Obeys next f n1 n2 (ended r) (λ x. guarded x (cond b (carry f x order.fields) (decline f x order.fields))) → (is_ok r ≡ true) × Told next f n0 n2 (Ok b) (spent (λ (p : Fields). leb p.level most) f m frame)
+ended_by next f most n0 n1 frame m st taken order o same is obeys n2 r b low ob =
+    ended_told next f (λ (p : Fields). leb p.level most) n0 n1 frame m st order.fields (subst (λ (t : Result Order Refusal). Obeys next f n0 n1 (given t) (λ x. guarded x (take_frame f x frame))) is obeys) n2 r b
+    (subst (λ (p : Fields). leb p.level most ≡ b) same low) ob

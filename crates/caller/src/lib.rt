@@ -2,11 +2,8 @@
 // refusal; that none is, is proved.
 #![tactic(auto)]
 
-ghost use Rattle.std.specs.Prelude.{◌≡◌, if◌then◌else◌, nat_le};
+ghost use Rattle.std.specs.Prelude.{◌≡◌, nat_le};
 ghost use Rattle.mac.specs.Promises.{wiped};
-ghost use Rattle.node.specs.Calls.{guarded, carry, decline};
-ghost use Rattle.node.specs.Orders.{ended};
-ghost use Rattle.node.specs.Stands.{Obeys};
 ghost use Rattle.caller.specs.Spending.{Spends, spent};
 
 use hash::Hash;
@@ -36,30 +33,12 @@ fn spend<H: Hash, A: Algorithm<H>>(
     ensures spends { Spends H.Hash.next A.Algorithm.face node.old node.new result (λ m. spent (λ o. nat_le o.level most) A.Algorithm.face m frame.now) }
     ensures zeroed { work.new ≡ wiped }
 {
-    let taken = node.take(frame, work);
-    match taken {
-        Ok(order) => {
-            let low = order.fields().level <= most;
-            let end = end_order(node, order, low);
-            match end {
-                Ok(()) => Ok(low),
-                Err((e, back)) => Err((e, Some(back))),
-            }
-        }
-        Err(e) => Err((e, None)),
-    }
-}
-
-fn end_order<H: Hash, A: Algorithm<H>>(
-    node: &mut Node<H, A>,
-    order: Order,
-    carries: bool,
-) -> Result<(), (Refusal, Order)>
-    ensures { Obeys H.Hash.next A.Algorithm.face node.old node.new (ended result) (λ m. guarded m (if carries then carry A.Algorithm.face m order.fields else decline A.Algorithm.face m order.fields)) }
-{
-    if carries {
-        node.carry(order)
+    let order = node.take(frame, work).map_err(|e| (e, None))?;
+    if order.fields().level <= most {
+        node.carry(order).map_err(|(e, back)| (e, Some(back)))?;
+        Ok(true)
     } else {
-        node.decline(order)
+        node.decline(order).map_err(|(e, back)| (e, Some(back)))?;
+        Ok(false)
     }
 }

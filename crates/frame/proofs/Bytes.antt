@@ -38,10 +38,6 @@ pub slot_fits : (bs : List ℕ) → (header_of bs).slot < 8
 unfolding header_of
 slot_fits bs = omega arith
 
-pub kind_fits : (bs : List ℕ) → (header_of bs).kind < 4
-unfolding header_of
-kind_fits bs = omega arith
-
 pub header_fits : HeaderFits
 unfolding header_of
 header_fits bs small =

@@ -47,9 +47,6 @@ module _ (f : Face) (hand : Option Fields) (frame : List ℕ) (t own last : ℕ)
   abbrev asked : Option Refusal
   asked = first_refusal (frame_q f hand frame t own key last)
 
-  pub busy : is_some hand ≡ true → asked ≡ Some OrderInHand
-  busy e = ap (λ (b : Bool). cond (not b) (first_refusal (questions frame t ++ further f (is_some key) own (header_of frame).address (header_of frame).size last (header_of frame).number)) (Some OrderInHand)) e
-
   module _ (idle : is_some hand ≡ false) where
     opened : asked ≡ first_refusal (questions frame t ++ further f (is_some key) own (header_of frame).address (header_of frame).size last (header_of frame).number)
     opened = ap (λ (b : Bool). cond (not b) (first_refusal (questions frame t ++ further f (is_some key) own (header_of frame).address (header_of frame).size last (header_of frame).number)) (Some OrderInHand)) idle
@@ -82,9 +79,6 @@ same_fields frame t r h i = record {
 module _ (f : Face) (hand : Option Fields) (frame : List ℕ) (t own : ℕ) (slots : List (Option KeyRecord)) (took : List ℕ) where
   abbrev Owed : Result (Fields × KeyRecord) Refusal → Type 0
   Owed = AskedFrame f hand frame t own slots took
-
-  pub asks_busy : is_some hand ≡ true → Owed (Err OrderInHand)
-  asks_busy e = λ key _. busy f hand frame t own (get_or took (header_of frame).slot 0) key e
 
   module _ (idle : is_some hand ≡ false) where
     pub asks_unread : (e : Refusal) → refused e ≡ reads frame t → Owed (Err e)

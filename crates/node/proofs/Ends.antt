@@ -1,7 +1,6 @@
 -- Carry and decline. Assumes nothing.
-use Rattle.std.proofs.Common.{◌≡◌, ◌+◌, ◌^◌, ◌<◌, Bool, true, false, not, cond, Some, None, Ok, Option, sym, refl, ap, ◌∙◌, subst}
+use Rattle.std.proofs.Common.{◌≡◌, ◌+◌, ◌^◌, ◌<◌, Bool, true, false, cond, Some, None, Ok, Option, sym, refl, ap, ◌∙◌, subst}
 use borrow.Author.Tests.{both_ways}
-use Rattle.std.specs.Option.{option_eq}
 use Rattle.refusals.specs.declared.Refusal.{Refusal}
 use Rattle.refusals.specs.declared.Refusal.TheVariants.{NotInHand}
 use Rattle.mac.specs.Face.{Face}
@@ -12,7 +11,7 @@ use Rattle.node.specs.declared.desk.End.{End}
 use Rattle.node.specs.declared.desk.End.TheVariants.{Carry, Decline}
 use Rattle.node.specs.Orders.{end_call, desk_ended}
 use Rattle.node.specs.Model.{Model, After, accepted, refused, unless, with_desk}
-use Rattle.node.specs.Asking.{same_order, is_order}
+use Rattle.node.specs.Asking.{is_order}
 use Rattle.node.specs.Calls.{guarded, carry, decline}
 use Rattle.node.specs.Stands.{Stands, Told, Sound}
 use Rattle.node.proofs.Counts.{carried_few, declined_few, ended_sound}
@@ -22,15 +21,6 @@ held_of : (o : Fields) (hand : Option Fields) → is_order o hand ≡ true → (
 unfolding carry decline
 held_of o None e = absurd (both_ways _ refl e)
 held_of o (Some h) e = (h, refl)
-
-twice : (b : Bool) → b ≡ not (not b)
-twice true = refl
-twice false = refl
-
--- fields that are compared one by one
-pub held_is : (eq : Fields → Fields → Bool) → ((a b : Fields) → eq a b ≡ same_order a b) → (hand : Option Fields) (o p : Fields) (b : Bool) → p ≡ o → b ≡ not (option_eq eq hand (Some p)) → is_order o hand ≡ not b
-held_is eq same None o p b h e = ap not (sym e)
-held_is eq same (Some k) o p b h e = ap (same_order k) (sym h) ∙ sym (same k p) ∙ twice (eq k p) ∙ ap not (sym e)
 
 module _ {H A : Type 0} (next : H → H) (f : Face) (n : Node H A) (m : Model) (st : Stands next f n m) where
   abbrev pub desk_written : H → Desk → Node H A
@@ -66,10 +56,6 @@ module _ {H A : Type 0} (next : H → H) (f : Face) (n : Node H A) (m : Model) (
 
     abbrev done : After Unit
     done = accepted (tt {0}) (with_desk m (desk_ended m.desk o end)) 0
-
-    -- where the making was refused
-    pub ends_unmade : (e : Refusal) → n.refusal ≡ Some e → call ≡ refused m e
-    ends_unmade e is = ends_as end o ∙ ap (λ (r : Option Refusal). ask r (is_order o m.desk.hand) done) (sym st.refusal ∙ is)
 
     module _ (made : n.refusal ≡ None) (b : Bool) (held : is_order o n.desk.hand ≡ b) where
       asked : call ≡ ask None b done

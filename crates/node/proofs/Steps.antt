@@ -148,13 +148,6 @@ module _ {H A : Type 0} (next : H → H) (f : Face) (n : Node H A) (m : Model) (
       from None e z = absurd (subst (SlotStands f (Some r)) e z)
       from (Some k) e z = (k, e, subst (SlotStands f (Some r)) e z)
 
-  pub key_absent : (s : ℕ) → s < 8 → get_or n.slots s None ≡ None → get_or m.slots s None ≡ None
-  key_absent s s8 held = from (get_or m.slots s None) refl (subst (λ x. SlotStands f x (get_or m.slots s None)) held (st.slot s None s8))
-    where
-      from : (x : Option (List ℕ)) → get_or m.slots s None ≡ x → SlotStands f None (get_or m.slots s None) → get_or m.slots s None ≡ None
-      from None e z = e
-      from (Some k) e z = absurd (subst (SlotStands f None) e z)
-
   -- the questions on a slot are those of what the node stands for
   pub slot_asked : (s : ℕ) (rest : List Question) → first_refusal (slot_q s (is_some (get_or m.slots s None)) ++ rest) ≡ first_refusal (slot_q s (is_some (get_or n.slots s None)) ++ rest)
   slot_asked s rest =

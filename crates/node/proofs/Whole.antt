@@ -1,8 +1,7 @@
 -- The tag of a whole message, begun, joined and closed in one call. Assumes nothing.
-use Rattle.std.proofs.Common.{◌≡◌, ℕ, ◌+◌, ◌-◌, ◌≤◌, Bool, true, List, [], ◌++◌, length, take, drop, is_err, Ok, Result, sym, refl, ap, ◌∙◌, subst, zero-add, arith, length-drop}
+use Rattle.std.proofs.Common.{◌≡◌, ℕ, ◌+◌, ◌-◌, ◌≤◌, Bool, true, List, [], ◌++◌, length, take, drop, Ok, Result, sym, refl, ap, ◌∙◌, subst, zero-add, arith, length-drop}
 use borrow.Rule.Slice.PartMut.{put_mid}
 use Rattle.std.proofs.lemmas.List.{append-nil, take_all, drop_all, drop-drop, length-take-le}
-use borrow.Author.Tests.{both_ways}
 use Rattle.std.specs.Str.{bytes_eq}
 use Rattle.hash.specs.Meter.{after}
 use Rattle.hash.proofs.Turns.{after_after}
@@ -31,12 +30,6 @@ module _ {H : Type 0} (next : H → H) (f : Face) (laws : Laws f) where
         (j.0, j.1, j.2 ∙ ap (after next h0) same)
 
     module _ (frame : List ℕ) (isPiece : piece ≡ signed_part frame) where
-      -- a message within the limit is never refused
-      pub signed_refused : (h2 : H) (b : Bool) → is_err ra ≡ true → Signed next f h0 h2 r frame b
-      signed_refused h2 b e = λ k s fits short.
-          let j = joins_all k s (subst (λ (x : List ℕ). length x ≤ f.row.message) (sym isPiece) short) in
-          absurd (both_ways _ (ap is_err j.0) e)
-
       pub signed_compared : (h2 : H) (tag : List ℕ) (b : Bool) → tag ≡ tag_in frame → Compared next f h1 h2 run1 (length tag) tag b → Signed next f h0 h2 r frame b
       signed_compared h2 tag b isTag compared = λ k s fits short.
           let j = joins_all k s (subst (λ (x : List ℕ). length x ≤ f.row.message) (sym isPiece) short) in

@@ -9,6 +9,7 @@ use Rattle.node.specs.declared.Node.{Node}
 use Rattle.node.specs.declared.desk.Desk.{Desk}
 use Rattle.node.specs.declared.desk.Fields.{Fields}
 use Rattle.node.specs.Model.{Model, Opened, After}
+use Rattle.node.specs.Calls.{written}
 
 abbrev pub sum : List ℕ → ℕ
 sum [] = 0
@@ -62,3 +63,7 @@ module _ {H A : Type 0} (next : H → H) (f : Face) where
   -- so it is whatever the node stood for
   abbrev pub Obeys : {X : Type 0} → Node H A → Node H A → Result X Refusal → (Model → After X) → Type 0
   Obeys n0 n1 r call = (m : Model) → Stands n0 m → Told n0 n1 r (call m)
+
+  -- a place to write after a call, whatever the node stood for: the bytes over what was there, where nothing was refused
+  abbrev pub Writes : {X : Type 0} → Node H A → Result X Refusal → (Model → List ℕ) → List ℕ → List ℕ → Type 0
+  Writes n0 r bytes out0 out1 = (m : Model) → Stands n0 m → out1 ≡ written f m r (bytes m) out0

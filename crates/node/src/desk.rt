@@ -2,6 +2,7 @@
 // last value; in a node's books none comes near it.
 ghost use Rattle.std.specs.Prelude.{◌≡◌, ℕ, ◌+◌, ◌^◌, ◌<◌, slice_index};
 ghost use Rattle.node.specs.Taking.{fields_in};
+ghost use Rattle.node.specs.Asking.{is_order};
 ghost use Rattle.node.specs.Calls.{desk_new, desk_taken, desk_sealed};
 ghost use Rattle.node.specs.Orders.{desk_ended};
 
@@ -68,6 +69,13 @@ impl Desk {
             sealed: [0; 8],
             hand: None,
         }
+    }
+
+    // Is this the order in hand, in all its fields?
+    pub(crate) fn holds(&self, order: Fields) -> bool
+        ensures { result ≡ is_order order self.now.hand }
+    {
+        self.hand == Some(order)
     }
 
     pub(crate) fn take(&mut self, order: Fields)

@@ -1,9 +1,8 @@
 // Runs in lanes: opened, fed piece by piece, and finished, judged or dropped.
 ghost use Rattle.std.specs.Prelude.{◌≡◌, ℕ, List, length, None};
 ghost use Rattle.mac.specs.Promises.{wiped};
-ghost use Rattle.node.specs.Model.{Model};
-ghost use Rattle.node.specs.Calls.{guarded, open_lane, feed, drop_lane, finish, judge, tag_at, written};
-ghost use Rattle.node.specs.Stands.{Stands, Obeys};
+ghost use Rattle.node.specs.Calls.{guarded, open_lane, feed, drop_lane, finish, judge, tag_at};
+ghost use Rattle.node.specs.Stands.{Obeys, Writes};
 
 use crate::Node;
 use crate::compare::is_tag;
@@ -74,7 +73,7 @@ impl<H: Hash, A: Algorithm<H>> Node<H, A> {
         work: &mut [u8; 64],
     ) -> Result<(), Refusal>
         ensures obeys { Obeys H.Hash.next A.Algorithm.face self.old self.new result (λ m. guarded m (finish A.Algorithm.face m lane (length out.old))) }
-        ensures written { (m : Model) → Stands H.Hash.next A.Algorithm.face self.old m → out.new ≡ written A.Algorithm.face m result (tag_at A.Algorithm.face m lane) out.old }
+        ensures written { Writes H.Hash.next A.Algorithm.face self.old result (λ m. tag_at A.Algorithm.face m lane) out.old out.new }
         ensures zeroed { work.new ≡ wiped }
     {
         let guard = Wipe { block: work };
@@ -85,7 +84,7 @@ impl<H: Hash, A: Algorithm<H>> Node<H, A> {
     fn end_lane(&mut self, lane: usize, out: &mut [u8], work: &mut [u8; 64]) -> Result<(), Refusal>
         requires { self.old.refusal ≡ None }
         ensures obeys { Obeys H.Hash.next A.Algorithm.face self.old self.new result (λ m. finish A.Algorithm.face m lane (length out.old)) }
-        ensures written { (m : Model) → Stands H.Hash.next A.Algorithm.face self.old m → out.new ≡ written A.Algorithm.face m result (tag_at A.Algorithm.face m lane) out.old }
+        ensures written { Writes H.Hash.next A.Algorithm.face self.old result (λ m. tag_at A.Algorithm.face m lane) out.old out.new }
     {
         self.lane(lane)?;
         A::end(&mut self.hash, &mut self.lanes[lane], self.t, out, work)

@@ -2,9 +2,8 @@
 ghost use Rattle.std.specs.Prelude.{◌≡◌, ℕ, ◌<◌, ◌≤◌, List, length, is_some, IfOk, None, slice_index, slice_index_or};
 ghost use Rattle.refusals.specs.Questions.{first_refusal};
 ghost use Rattle.mac.specs.Promises.{wiped};
-ghost use Rattle.node.specs.Model.{Model};
-ghost use Rattle.node.specs.Calls.{guarded, seal, sealed_frame, written, take_frame, carry, decline};
-ghost use Rattle.node.specs.Stands.{Stands, Obeys};
+ghost use Rattle.node.specs.Calls.{guarded, seal, sealed_frame, take_frame, carry, decline};
+ghost use Rattle.node.specs.Stands.{Obeys, Writes};
 ghost use Rattle.node.specs.Taking.{further, Answered, AskedFrame, AskedSeal};
 ghost use Rattle.node.specs.Orders.{given, ended, GivenBack, end_call};
 
@@ -29,7 +28,7 @@ impl<H: Hash, A: Algorithm<H>> Node<H, A> {
         work: &mut [u8; 64],
     ) -> Result<usize, Refusal>
         ensures obeys { Obeys H.Hash.next A.Algorithm.face self.old self.new result (λ m. guarded m (seal A.Algorithm.face m slot kind body.now (length out.old))) }
-        ensures written { (m : Model) → Stands H.Hash.next A.Algorithm.face self.old m → out.new ≡ written A.Algorithm.face m result (sealed_frame A.Algorithm.face m slot kind body.now address) out.old }
+        ensures written { Writes H.Hash.next A.Algorithm.face self.old result (λ m. sealed_frame A.Algorithm.face m slot kind body.now address) out.old out.new }
         ensures zeroed { work.new ≡ wiped }
     {
         let guard = Wipe { block: work };
@@ -48,7 +47,7 @@ impl<H: Hash, A: Algorithm<H>> Node<H, A> {
     ) -> Result<usize, Refusal>
         requires { self.old.refusal ≡ None }
         ensures obeys { Obeys H.Hash.next A.Algorithm.face self.old self.new result (λ m. seal A.Algorithm.face m slot kind body.now (length out.old)) }
-        ensures written { (m : Model) → Stands H.Hash.next A.Algorithm.face self.old m → out.new ≡ written A.Algorithm.face m result (sealed_frame A.Algorithm.face m slot kind body.now address) out.old }
+        ensures written { Writes H.Hash.next A.Algorithm.face self.old result (λ m. sealed_frame A.Algorithm.face m slot kind body.now address) out.old out.new }
     {
         let record = self.ask_seal(slot, kind, body, out.len())?;
         let number = self.desk.sealed[slot].saturating_add(1);
@@ -164,7 +163,7 @@ impl<H: Hash, A: Algorithm<H>> Node<H, A> {
         if let Err(e) = self.ready() {
             return Err((e, order));
         }
-        if self.desk.hand != Some(order.fields()) {
+        if !self.desk.holds(order.fields()) {
             return Err((Refusal::NotInHand, order));
         }
         self.desk.end(order.into_fields(), end);

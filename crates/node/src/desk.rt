@@ -44,6 +44,7 @@ pub(crate) enum End {
     Decline,
 }
 
+// The last numbers stand in two rows by slot: no call looks at both of one slot.
 #[derive(Clone, Copy)]
 pub struct Desk {
     pub level: u8,

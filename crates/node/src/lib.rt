@@ -50,20 +50,20 @@ pub struct Node<H: Hash, A: Algorithm<H>> {
     algorithm: PhantomData<A>,
 }
 
-// The first no of a making.
-fn making_refusal<H: Hash, A: Algorithm<H>>(t: usize, address: u16) -> Option<Refusal>
-    ensures { result ≡ first_refusal (making_q A.Algorithm.face H.Hash.meaning.added t address) }
+// The questions on a making, in their order.
+fn check_making<H: Hash, A: Algorithm<H>>(t: usize, address: u16) -> Result<(), Refusal>
+    ensures { result_err result ≡ first_refusal (making_q A.Algorithm.face H.Hash.meaning.added t address) }
 {
     if A::needs_added() && H::shape_of().added == 0 {
-        return Some(Refusal::NoAddedWords);
+        return Err(Refusal::NoAddedWords);
     }
     if !A::row_of().tag.has(t) {
-        return Some(Refusal::TagLength);
+        return Err(Refusal::TagLength);
     }
     if address == EVERYBODY {
-        return Some(Refusal::OwnAddress);
+        return Err(Refusal::OwnAddress);
     }
-    None
+    Ok(())
 }
 
 impl<H: Hash, A: Algorithm<H>> Node<H, A> {
@@ -72,7 +72,7 @@ impl<H: Hash, A: Algorithm<H>> Node<H, A> {
         ensures stands { Stands H.Hash.next A.Algorithm.face result (new A.Algorithm.face H.Hash.meaning.added t address) }
         ensures hash { result.hash ≡ hash }
     {
-        let refusal = making_refusal::<H, A>(t, address);
+        let refusal = check_making::<H, A>(t, address).err();
         Node {
             hash,
             slots: [None; SLOTS],

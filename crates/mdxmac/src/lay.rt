@@ -22,6 +22,7 @@ pub(crate) fn put_key(block: &mut [u8; 64], at: usize, key: &[u8])
     if key.is_empty() {
         return;
     }
+    // by index: of a chain with `cycle` too little is known to prove it
     for i in 0..16 {
         block[at + i] = key[i % key.len()];
     }
@@ -32,6 +33,7 @@ fn mix_bytes(block: &mut [u8; 64], at: usize, with: &[u8; 16])
     requires { at ≤ 48 }
     ensures { block.new ≡ put at (both (take 16 (drop at block.old)) with.now) block.old }
 {
+    // by its place, since a zip with `iter_mut` does not tell what was written
     for (i, x) in with.iter().enumerate() {
         block[at + i] ^= x;
     }

@@ -160,6 +160,7 @@ impl<H: Hash, A: Algorithm<H>> Node<H, A> {
         ensures obeys { Obeys H.Hash.next A.Algorithm.face self.old self.new (ended result) (λ m. guarded m (end_call A.Algorithm.face m end order.fields)) }
         ensures back { GivenBack result order.fields }
     {
+        // no `?`: the order goes back with the refusal
         if let Err(e) = self.ready() {
             return Err((e, order));
         }

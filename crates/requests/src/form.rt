@@ -25,7 +25,7 @@ struct Fields<'a> {
     message: &'a [u8],
 }
 
-// What a line asks for.
+// What a line asks for. Algorithm and hash are numbers: any of three digits makes a line, and the one-shot call asks of them.
 #[derive(Clone, Copy)]
 pub(crate) struct Request<'a> {
     pub(crate) algorithm: u32,

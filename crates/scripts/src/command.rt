@@ -4,7 +4,7 @@ ghost use Rattle.scripts.specs.Form.{said, formed as wellFormed};
 
 use crate::verb::Verb;
 
-// A line that is still being read.
+// A line that is still being read: its numbers and bytes are not yet those that the verb asks for.
 #[derive(Drop)]
 pub(crate) struct Draft {
     pub(crate) verb: Verb,

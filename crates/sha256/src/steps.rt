@@ -82,6 +82,7 @@ fn all_steps(chain: &[u32; 8], block: &[u8; 64]) -> [u32; 8]
 fn close(chain: &mut [u32; 8], last: &[u32; 8])
     ensures { chain.new ≡ closed chain.old last.now 8 }
 {
+    // by its place, since a zip with `iter_mut` does not tell what was written
     for (i, word) in last.iter().enumerate() {
         chain[i] = sum(chain[i], *word);
     }

@@ -111,6 +111,7 @@ fn all_steps<const KEYED: bool>(chain: [u32; 5], keys: &[u32; 4], block: &[u8; 6
 fn close(chain: &mut [u32; 8], last: &[u32; 5])
     ensures { chain.new ≡ closed chain.old last.now 5 }
 {
+    // by its place, since a zip with `iter_mut` does not tell what was written
     for (i, word) in last.iter().enumerate() {
         chain[i] = sum(chain[i], *word);
     }

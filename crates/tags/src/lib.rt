@@ -135,7 +135,8 @@ fn answer_by<H: Hash>(
     }
 }
 
-// The answer by the kinds of algorithm and hash, of a hash made for this call.
+// The answer by the kinds of algorithm and hash, of a hash made for this call. A kind that is known when the program runs
+// picks a type by a match here, and at each place that does something else with it: a trait for that would say no more.
 fn make_by(
     algorithm: AlgorithmKind,
     hash: HashKind,
@@ -153,7 +154,7 @@ fn make_by(
 }
 
 // Writes the tag of t bytes and answers the rounds, as metered from 0; a refusal leaves the place to write as found.
-// The work block is wiped either way.
+// The work block is wiped either way. Algorithm and hash come as numbers, since whether there are such is the first question.
 #[tactic(auto, unfolding(crate::specs::Tag::answered_by, crate::specs::Tag::tag_by))]
 pub fn make_tag(
     algorithm: u32,

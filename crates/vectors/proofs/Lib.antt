@@ -1,1 +1,1 @@
-pub mod Agreed
+pub mod Front

@@ -5,12 +5,13 @@
 
 ghost use Rattle.std.specs.Prelude.{◌≡◌, true, ◌++◌, length, drop};
 ghost use Rattle.hash.specs.Meaning.{hashed};
-ghost use Rattle.tags.specs.Tag.{tag_of};
-ghost use Rattle.vectors.specs.Codes.{code_of};
+ghost use Rattle.tags.specs.Asked.{written, Long};
+ghost use Rattle.vectors.specs.Codes.{code_of, tag_asked};
 
 use crate::pieces::tag_in_pieces;
-use crate::rows::{AskRow, HashRow, Row, TagRow, read_row};
+use crate::rows::{AskRow, HashRow, Request, Row, TagRow, read_row};
 use hash::{Hash, hash_message};
+use refusals::Refusal;
 use ripemd160::Ripemd160;
 use sha_1::Sha1;
 use sha256::Sha256;
@@ -45,21 +46,22 @@ impl Count {
             return Ok(());
         }
         self.differ = self.differ.saturating_add(1);
-        let what = self.what;
-        println!(rt; "{what}: differs: {line}")
+        println!(rt; "{}: differs: {line}", self.what)
     }
 }
 
 impl fmt::Display for Count {
     fn fmt<W: fmt::Write>(&self, f: &mut fmt::Formatter<W>) -> fmt::Result {
-        let what = self.what;
-        let agree = self.agree;
-        let differ = self.differ;
-        write!(f, "{what}: {agree} agree, {differ} differ")
+        write!(
+            f,
+            "{}: {} agree, {} differ",
+            self.what, self.agree, self.differ
+        )
     }
 }
 
 // Whether the place begins with these bytes, and they are n.
+#[tactic(auto, using(crate::proofs::Front::begun))]
 fn begins(place: &[u8; 32], n: usize, bytes: &[u8]) -> bool
     ensures { result ≡ true → (length bytes.now ≡ n) × (place.now ≡ bytes.now ++ drop n place.now) }
 {
@@ -79,62 +81,53 @@ fn has_code<H: Hash>(hash: &mut H, message: &[u8], code: &[u8]) -> bool
 fn hash_agrees(row: &HashRow) -> bool
     ensures { result ≡ true → row.now.code.items ≡ code_of row.now.hash row.now.message.items }
 {
-    let message = row.message.as_slice();
-    let code = row.code.as_slice();
     match HashKind::try_from(row.hash) {
-        Ok(HashKind::OfRipemd160) => has_code(&mut Ripemd160::new(), message, code),
-        Ok(HashKind::OfSha1) => has_code(&mut Sha1::new(), message, code),
-        Ok(HashKind::OfSha256) => has_code(&mut Sha256::new(), message, code),
+        Ok(HashKind::OfRipemd160) => has_code(&mut Ripemd160::new(), &row.message, &row.code),
+        Ok(HashKind::OfSha1) => has_code(&mut Sha1::new(), &row.message, &row.code),
+        Ok(HashKind::OfSha256) => has_code(&mut Sha256::new(), &row.message, &row.code),
         Err(_) => false,
     }
 }
 
+// The one-shot call of a request.
+fn call(request: &Request, out: &mut [u8], work: &mut [u8; 64]) -> Result<u64, Refusal>
+    ensures tag { out.new ≡ written result (tag_asked request.now) request.now.t out.old }
+    ensures long { Long result (tag_asked request.now) request.now.t (length out.old) }
+{
+    make_tag(
+        request.algorithm,
+        request.hash,
+        request.t,
+        &request.key,
+        &request.message,
+        out,
+        work,
+    )
+}
+
 // Whether the one-shot call gives the row's tag. Where it does, that is the tag by the definition.
 fn call_agrees(row: &TagRow) -> bool
-    ensures { result ≡ true → row.now.tag.items ≡ tag_of row.now.algorithm row.now.hash row.now.t row.now.key.items row.now.message.items }
+    ensures { result ≡ true → row.now.tag.items ≡ tag_asked row.now.request }
 {
-    let key = row.key.as_slice();
-    let message = row.message.as_slice();
-    let tag = row.tag.as_slice();
     let mut out = [0; 32];
-    let mut work = [0; 64];
-    let made = make_tag(
-        row.algorithm,
-        row.hash,
-        row.t,
-        key,
-        message,
-        &mut out,
-        &mut work,
-    );
-    made.is_ok() && begins(&out, row.t, tag)
+    let made = call(&row.request, &mut out, &mut [0; 64]);
+    made.is_ok() && begins(&out, row.request.t, &row.tag)
 }
 
 // Whether a run gives the row's tag.
 fn pieces_agree(row: &TagRow) -> bool {
     let mut out = [0; 32];
-    let made = tag_in_pieces(row, &mut out);
-    made.is_ok() && begins(&out, row.t, row.tag.as_slice())
+    let made = tag_in_pieces(&row.request, &mut out);
+    made.is_ok() && begins(&out, row.request.t, &row.tag)
 }
 
 // Whether the one-shot call answers with the row's number. A refusal leaves the place to write as it was, and the work
 // block is wiped either way.
 fn number_agrees(row: &AskRow) -> bool {
-    let key = row.key.as_slice();
-    let message = row.message.as_slice();
     let room = row.room.min(32);
     let mut out = [0xee; 32];
     let mut work = [0xee; 64];
-    let made = make_tag(
-        row.algorithm,
-        row.hash,
-        row.t,
-        key,
-        message,
-        &mut out[0..room],
-        &mut work,
-    );
-    let number = match made {
+    let number = match call(&row.request, &mut out[0..room], &mut work) {
         Ok(_) => 0,
         Err(refusal) => u8::from(refusal),
     };

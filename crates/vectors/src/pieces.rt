@@ -1,6 +1,6 @@
-// The tag of a row by the streaming interface: the key made ready, a run begun, the message joined piece by piece, and
+// The tag of a request by the streaming interface: the key made ready, a run begun, the message joined piece by piece, and
 // the run ended.
-use crate::rows::TagRow;
+use crate::rows::Request;
 use hash::Hash;
 use hmac::Hmac;
 use mac::{Algorithm, Run};
@@ -35,35 +35,35 @@ fn add_pieces<H: Hash, A: Algorithm<H>>(
 
 fn tag_by<H: Hash, A: Algorithm<H>>(
     hash: &mut H,
-    row: &TagRow,
+    request: &Request,
     out: &mut [u8],
 ) -> Result<(), Refusal> {
     let mut work = [0; 64];
-    let record = A::expand(hash, row.key.as_slice(), &mut work)?;
+    let record = A::expand(hash, &request.key, &mut work)?;
     let mut run = A::begin(&record);
-    add_pieces::<H, A>(hash, &mut run, row.message.as_slice())?;
-    A::end(hash, &mut run, row.t, out, &mut work)
+    add_pieces::<H, A>(hash, &mut run, &request.message)?;
+    A::end(hash, &mut run, request.t, out, &mut work)
 }
 
 fn tag_over<H: Hash>(
     hash: &mut H,
     algorithm: AlgorithmKind,
-    row: &TagRow,
+    request: &Request,
     out: &mut [u8],
 ) -> Result<(), Refusal> {
     match algorithm {
-        AlgorithmKind::OfMdxMac => tag_by::<H, MdxMac>(hash, row, out),
-        AlgorithmKind::OfHmac => tag_by::<H, Hmac>(hash, row, out),
-        AlgorithmKind::OfShortMac => tag_by::<H, ShortMac>(hash, row, out),
+        AlgorithmKind::OfMdxMac => tag_by::<H, MdxMac>(hash, request, out),
+        AlgorithmKind::OfHmac => tag_by::<H, Hmac>(hash, request, out),
+        AlgorithmKind::OfShortMac => tag_by::<H, ShortMac>(hash, request, out),
     }
 }
 
-// Writes the tag of a row, made in pieces.
-pub(crate) fn tag_in_pieces(row: &TagRow, out: &mut [u8]) -> Result<(), Refusal> {
-    let algorithm = AlgorithmKind::try_from(row.algorithm)?;
-    match HashKind::try_from(row.hash)? {
-        HashKind::OfRipemd160 => tag_over(&mut Ripemd160::new(), algorithm, row, out),
-        HashKind::OfSha1 => tag_over(&mut Sha1::new(), algorithm, row, out),
-        HashKind::OfSha256 => tag_over(&mut Sha256::new(), algorithm, row, out),
+// Writes the tag of a request, made in pieces.
+pub(crate) fn tag_in_pieces(request: &Request, out: &mut [u8]) -> Result<(), Refusal> {
+    let algorithm = AlgorithmKind::try_from(request.algorithm)?;
+    match HashKind::try_from(request.hash)? {
+        HashKind::OfRipemd160 => tag_over(&mut Ripemd160::new(), algorithm, request, out),
+        HashKind::OfSha1 => tag_over(&mut Sha1::new(), algorithm, request, out),
+        HashKind::OfSha256 => tag_over(&mut Sha256::new(), algorithm, request, out),
     }
 }

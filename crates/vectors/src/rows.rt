@@ -14,23 +14,25 @@ pub struct HashRow {
     pub code: Vec<u8>,
 }
 
+// What a tag is asked of. Algorithm and hash are numbers, as the one-shot call takes them: a row may name what there is not.
 #[derive(Drop)]
-pub struct TagRow {
+pub struct Request {
     pub algorithm: u32,
     pub hash: u32,
     pub t: usize,
     pub key: Vec<u8>,
     pub message: Vec<u8>,
+}
+
+#[derive(Drop)]
+pub struct TagRow {
+    pub request: Request,
     pub tag: Vec<u8>,
 }
 
 #[derive(Drop)]
 pub struct AskRow {
-    pub algorithm: u32,
-    pub hash: u32,
-    pub t: usize,
-    pub key: Vec<u8>,
-    pub message: Vec<u8>,
+    pub request: Request,
     pub room: usize,
     pub number: u8,
 }
@@ -42,7 +44,7 @@ pub enum Row {
     Asking(AskRow),
 }
 
-// The value of a hexadecimal digit.
+// The value of a hexadecimal digit. Crate text reads pairs too, but does not tell which of the two errors below a row has.
 fn digit(letter: u8) -> Option<u8>
     ensures { IfSome result (λ d. d < 16) }
 {
@@ -63,14 +65,10 @@ fn byte(pair: &[u8]) -> anyhow::Result<u8> {
 }
 
 fn bytes(heap: Global, field: &str) -> anyhow::Result<Vec<u8>> {
-    let mut out = Vec::new(heap);
     if field == "-" {
-        return Ok(out);
+        return Ok(Vec::new(heap));
     }
-    for pair in field.as_bytes().chunks(2) {
-        out.push(byte(pair)?)?;
-    }
-    Ok(out)
+    field.as_bytes().chunks(2).map(byte).try_collect(heap)
 }
 
 fn message(heap: Global, field: &str) -> anyhow::Result<Vec<u8>> {
@@ -91,19 +89,23 @@ pub(crate) fn read_row(heap: Global, line: &str) -> anyhow::Result<Row> {
             code: bytes(heap, code)?,
         })),
         ["tag", algorithm, hash, t, key, text, tag] => Ok(Row::Keyed(TagRow {
-            algorithm: algorithm.parse()?,
-            hash: hash.parse()?,
-            t: t.parse()?,
-            key: bytes(heap, key)?,
-            message: message(heap, text)?,
+            request: Request {
+                algorithm: algorithm.parse()?,
+                hash: hash.parse()?,
+                t: t.parse()?,
+                key: bytes(heap, key)?,
+                message: message(heap, text)?,
+            },
             tag: bytes(heap, tag)?,
         })),
         ["ask", algorithm, hash, t, key, text, room, number] => Ok(Row::Asking(AskRow {
-            algorithm: algorithm.parse()?,
-            hash: hash.parse()?,
-            t: t.parse()?,
-            key: message(heap, key)?,
-            message: message(heap, text)?,
+            request: Request {
+                algorithm: algorithm.parse()?,
+                hash: hash.parse()?,
+                t: t.parse()?,
+                key: message(heap, key)?,
+                message: message(heap, text)?,
+            },
             room: room.parse()?,
             number: number.parse()?,
         })),

@@ -1,12 +1,14 @@
 -- Lists alike cost the same. Assumes nothing.
 use Rattle.std.proofs.Common.{◌≡◌, ℕ, ◌+◌, Bool, true, false, cond, ◌||◌, eqb, List, [], ◌∷◌, length, Some, None, Option, sym, refl, ap, ◌∙◌, arith}
+use Rattle.hash.specs.Meter.{moved}
 use Rattle.mac.specs.Face.{Face}
 use Rattle.frame.specs.Layout.{header_of}
 use Rattle.node.specs.declared.replay.Call.{Call}
+use Rattle.node.specs.declared.replay.Report.{Report}
 use Rattle.node.specs.Replies.{Answer}
 use Rattle.history.specs.History.{Event, AtLane, at_lane, lane_deed, accepted, compared, answer_number, fed_more, fed_bytes}
-use Rattle.history.specs.Law.{Always, Answered, Right, cost, settled, all_settled, open_rounds, whole_rounds, held_rounds}
-use Rattle.history.specs.Alike.{Alike, AlikeCalls}
+use Rattle.history.specs.Law.{Law, Logged, Always, Answered, Right, cost, settled, all_settled, open_rounds, whole_rounds, held_rounds}
+use Rattle.history.specs.Alike.{Alike, Together, AlikeCalls}
 use Rattle.history.specs.Alike.AlikeCalls.{installs, clears, opens, feeds, finishes, judges, drops, seals, takes, carries, declines}
 
 same_length : (p p' : List ℕ) → length p ≡ length p' → (n : Option ℕ) → fed_more (AtLane.adds p) n ≡ fed_more (AtLane.adds p') n
@@ -72,3 +74,19 @@ module _ (f : Face) (added t own own' : ℕ) where
   same_cost h h' al k k' =
       let o : (l : ℕ) → open_rounds f h l ≡ open_rounds f h' l = λ l. ap (held_rounds f) (same_fed h h' al l) in
       omega (arith, same_sum h h' al k k', o 0, o 1, o 2, o 3)
+
+-- two lists make the meters read alike wherever they are alike
+pub together : (f : Face) (added t own own' start start' : ℕ) (calls calls' : List Call) (answers answers' : List Answer) (reports reports' : List Report) →
+    Logged f added t own start calls answers reports → Logged f added t own' start' calls' answers' reports' → start ≡ start' → Together calls calls' answers answers' reports reports'
+together f added t own own' start start' calls calls' answers answers' reports reports' one two same =
+    record {
+      readings = λ k le le' al. same_reading _ _ _ _ (one.law k le) (two.law k le') al;
+      ends = λ al. same_reading _ _ _ _ one.ran.law two.ran.law al;
+    }
+  where
+    same_reading : (h h' : List Event) (r r' : Report) → Law f added t own start h r → Law f added t own' start' h' r' → Alike h h' → r.reading ≡ r'.reading
+    same_reading h h' r r' law law' al =
+        law.reading
+        ∙ ap (moved start) (same_cost f added t own own' h h' al law.answered law'.answered)
+        ∙ ap (λ x. moved x (cost f h')) same
+        ∙ sym law'.reading

@@ -1,6 +1,6 @@
 -- From the agreement to the law of a whole list. Assumes nothing.
 use Rattle.std.proofs.Common.{◌≡◌, ℕ, zero, suc, ◌+◌, ◌^◌, ◌<◌, ◌≤◌, Bool, true, false, leb, List, [], ◌∷◌, ◌++◌, reverse, length, get_or, take, replicate, None, Option, sym, refl, ap, ◌∙◌, subst, arith, length-append, leb-false, leb-true}
-use Rattle.std.proofs.lemmas.List.{reverse-append, take_more, take_all, take-append-le, get_or_append_left, get_or_push}
+use Rattle.std.proofs.lemmas.List.{length-map, length-take-le, map_push, reverse-append, take_more, take_all, take-append-le, get_or_append_left, get_or_push}
 use Rattle.hash.specs.Meter.{moved}
 use Rattle.hash.proofs.Turns.{reads}
 use Rattle.mac.specs.Face.{Face}
@@ -13,9 +13,11 @@ use Rattle.node.specs.Calls.{new}
 use Rattle.node.specs.Replaying.{report_of}
 use Rattle.node.specs.Stands.{Stands, in_hand}
 use Rattle.node.specs.Replies.{Answer}
+use Rattle.history.specs.declared.Step.{Step}
 use Rattle.history.specs.History.{Event, event, events, history}
-use Rattle.history.specs.Law.{Law, report_at, cost}
-use Rattle.history.specs.Keeps.{Keeps}
+use Rattle.history.specs.Law.{Law, Logged, report_at, cost}
+use Rattle.history.specs.Logs.{answers_in, reports_in}
+use Rattle.history.specs.Keeps.{Keeps, GoesOn}
 
 events_push : (cs : List Call) (bs : List Answer) (c : Call) (a : Answer) → length cs ≡ length bs → events (cs ++ c ∷ []) (bs ++ a ∷ []) ≡ events cs bs ++ event c a ∷ []
 events_push [] [] c a e = refl
@@ -109,3 +111,59 @@ keeps_new next f added t own first n st same =
     nothing X zero i x = refl
     nothing X (suc n) zero x = refl
     nothing X (suc n) (suc i) x = nothing X n i x
+
+-- After i calls of a list, each with its step: the node keeps its history, and the law holds at each point so far.
+pub record Logged-so-far {H A : Type 0} (next : H → H) (f : Face) (reading : H → ℕ) (added t own : ℕ) (first : H) (n : Node H A) (cs : List Call) (i : ℕ) (start : Report) (steps : List Step) : Type 0 where
+  pub many : length steps ≡ i
+  pub keeps : Keeps next f added t own first n (history (take i cs) (answers_in steps))
+  pub law : (k : ℕ) → k ≤ i → Law f added t own (reading first) (history (take k cs) (take k (answers_in steps))) (report_at (start ∷ reports_in steps) k)
+
+module _ {H A : Type 0} (next : H → H) (f : Face) (reading : H → ℕ) (low : (x : H) → reading x < 2 ^ 64) (one : (x : H) → reading (next x) ≡ moved (reading x) 1) (added t own : ℕ) (first : H) (cs : List Call) (start : Report) where
+  pub logged_none : (n : Node H A) (steps : List Step) → Stands next f n (new f added t own) → n.hash ≡ first → start ≡ report_of n.desk (reading n.hash) → steps ≡ [] → Logged-so-far next f reading added t own first n cs 0 start steps
+  logged_none n steps st same is none =
+      let k = keeps_new next f added t own first n st same in
+      subst (Logged-so-far next f reading added t own first n cs 0 start) (sym none)
+      (record {
+        many = refl;
+        keeps = k;
+        law = points_first (Law f added t own (reading first)) cs [] (start ∷ []) start refl (law_of next f reading low one added t own first n [] start k is);
+      })
+
+  pub logged_more : (n n' : Node H A) (i : ℕ) (d : Call) (steps steps' : List Step) (s : Step) → i < length cs → GoesOn next f n n' (get_or cs i d) s.answer → s.report ≡ report_of n'.desk (reading n'.hash) → steps' ≡ steps ++ s ∷ [] →
+      Logged-so-far next f reading added t own first n cs i start steps → Logged-so-far next f reading added t own first n' cs (i + 1) start steps'
+  logged_more n n' i d steps steps' s lt goes is more so =
+      let bs = answers_in steps in
+      let rs = start ∷ reports_in steps in
+      let long : length bs ≡ i = length-map steps _ ∙ so.many in
+      let past = history_more cs i d bs s.answer lt (length-take-le i cs (omega (arith, lt)) ∙ sym long) in
+      let k = subst (Keeps next f added t own first n') (sym past) (goes added t own first (history (take i cs) bs) so.keeps) in
+      let told = law_of next f reading low one added t own first n' (history (take (i + 1) cs) (bs ++ s.answer ∷ [])) s.report k is in
+      let points = points_more (Law f added t own (reading first)) cs bs s.answer rs s.report i long (omega (arith, length-map steps (λ (x : Step). x.report), so.many)) so.law told in
+      let answers = map_push (λ (x : Step). x.answer) steps s in
+      let reports = map_push (λ (x : Step). x.report) steps s in
+      subst (Logged-so-far next f reading added t own first n' cs (i + 1) start) (sym more)
+      (record {
+        many = omega (arith, length-append steps (s ∷ []), so.many);
+        keeps = subst (λ x. Keeps next f added t own first n' (history (take (i + 1) cs) x)) (sym answers) k;
+        law = λ j le.
+            subst (λ x. Law f added t own (reading first) (history (take j cs) (take j x)) (report_at (start ∷ reports_in (steps ++ s ∷ [])) j)) (sym answers)
+            (subst (λ x. Law f added t own (reading first) (history (take j cs) (take j (bs ++ s.answer ∷ []))) (report_at (start ∷ x) j)) (sym reports) (points j le));
+      })
+
+  pub logged_all : (n : Node H A) (i : ℕ) (steps : List Step) (h : H) → length cs ≤ i → i ≤ length cs → first ≡ h → Logged-so-far next f reading added t own first n cs i start steps → Logged f added t own (reading h) cs (answers_in steps) (start ∷ reports_in steps)
+  logged_all n i steps h le ge same so =
+      let bs = answers_in steps in
+      let rs = start ∷ reports_in steps in
+      let long : length bs ≡ length cs = length-map steps _ ∙ so.many ∙ omega (arith, le, ge) in
+      let law : (k : ℕ) → k ≤ length cs → Law f added t own (reading h) (history (take k cs) (take k bs)) (report_at rs k) =
+      λ k lt. subst (λ x. Law f added t own (reading x) (history (take k cs) (take k bs)) (report_at rs k)) same (so.law k (omega (arith, le, lt))) in
+      record {
+        ran = record {
+          answered = long;
+          law =
+              subst (λ x. Law f added t own (reading h) (history x bs) (report_at rs (length bs))) (take_all (length bs) cs (omega (arith, long)))
+              (subst (λ x. Law f added t own (reading h) (history (take (length bs) cs) x) (report_at rs (length bs))) (take_all (length bs) bs (omega arith)) (law (length bs) (omega (arith, long))));
+        };
+        reported = omega (arith, length-map steps (λ (x : Step). x.report), so.many, le, ge);
+        law = law;
+      }

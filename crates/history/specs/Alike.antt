@@ -31,8 +31,9 @@ pub record AlikeEvents (e e' : Event) : Type 0 where
 abbrev pub Alike : List Event → List Event → Type 0
 Alike h h' = AllZip AlikeEvents h h'
 
--- at every point at which two lists so far are alike, the meters read the same
-abbrev pub Together : List Call → List Call → List Answer → List Answer → List Report → List Report → Type 0
-Together calls calls' answers answers' reports reports' =
-    (k : ℕ) → k ≤ length calls → k ≤ length calls' → Alike (history (take k calls) (take k answers)) (history (take k calls') (take k answers')) →
-    (report_at reports k).reading ≡ (report_at reports' k).reading
+-- At every point at which two lists so far are alike, the meters read the same; and where the whole lists are alike, the meters
+-- end the same.
+pub record Together (calls calls' : List Call) (answers answers' : List Answer) (reports reports' : List Report) : Type 0 where
+  pub readings : (k : ℕ) → k ≤ length calls → k ≤ length calls' → Alike (history (take k calls) (take k answers)) (history (take k calls') (take k answers')) →
+      (report_at reports k).reading ≡ (report_at reports' k).reading
+  pub ends : Alike (history calls answers) (history calls' answers') → (report_at reports (length answers)).reading ≡ (report_at reports' (length answers')).reading

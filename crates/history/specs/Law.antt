@@ -165,13 +165,13 @@ module _ (f : Face) where
     pub reading : r.reading ≡ moved start (cost h)
 
 -- every call has its answer, and the law holds of them
-abbrev pub Ran : Face → ℕ → ℕ → ℕ → ℕ → List Call → List Answer → Report → Type 0
-Ran f added t own start calls answers r = (length answers ≡ length calls) × Law f added t own start (history calls answers) r
+pub record Ran (f : Face) (added t own start : ℕ) (calls : List Call) (answers : List Answer) (r : Report) : Type 0 where
+  pub answered : length answers ≡ length calls
+  pub law : Law f added t own start (history calls answers) r
 
--- Every call has its answer; a report stands before the first call and after each one, and the law holds at each of these
--- points, of the calls and answers so far.
-abbrev pub Logged : Face → ℕ → ℕ → ℕ → ℕ → List Call → List Answer → List Report → Type 0
-Logged f added t own start calls answers reports =
-    (length answers ≡ length calls)
-    × (length reports ≡ length calls + 1)
-    × ((k : ℕ) → k ≤ length calls → Law f added t own start (history (take k calls) (take k answers)) (report_at reports k))
+-- The same, and a report stands before the first call and after each one; the law holds at each of these points, of the calls
+-- and answers so far.
+pub record Logged (f : Face) (added t own start : ℕ) (calls : List Call) (answers : List Answer) (reports : List Report) : Type 0 where
+  pub ran : Ran f added t own start calls answers (report_at reports (length answers))
+  pub reported : length reports ≡ length calls + 1
+  pub law : (k : ℕ) → k ≤ length calls → Law f added t own start (history (take k calls) (take k answers)) (report_at reports k)

@@ -2,3 +2,4 @@ pub mod History
 pub mod Law
 pub mod Alike
 pub mod Keeps
+pub mod Logs

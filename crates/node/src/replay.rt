@@ -93,7 +93,7 @@ impl SealedFrame {
 }
 
 // What a node has come to: its meter, the lamp's level, and the orders counted.
-#[derive(Clone, Copy)]
+#[derive(Clone, Copy, Default)]
 pub struct Report {
     pub reading: u64,
     pub level: u8,

@@ -3,6 +3,7 @@ ghost use Rattle.std.specs.Prelude.{◌≡◌, ◌+◌, ◌^◌, ◌<◌, ◌≤
 ghost use Rattle.std.specs.Option.{option_map};
 ghost use Rattle.node.specs.declared.replay.Outcome.TheVariants.{Done};
 ghost use Rattle.history.specs.Law.{report_at};
+ghost use Rattle.history.specs.Logs.{answers_of, reports_of};
 ghost use Rattle.scripts.specs.Reply.{while_waiting, while_refusing, while_working, on_from_waiting, on_from_working, replied, onward, transcript, calls_before};
 ghost use Rattle.scripts.specs.Told.{told};
 
@@ -17,32 +18,25 @@ use refusals::Refusal;
 use std::alloc::{AllocError, Global};
 use text::put_decimal;
 
-// There is an answer for each call, so that the last branch is never taken.
-fn answer_at(answers: &[Answer], k: usize) -> Answer
-    ensures { result ≡ slice_index_or answers.now k (Ok Done) }
+// There is an answer for each call, so that the default is never taken.
+fn answer_at(log: &Log, k: usize) -> Answer
+    ensures { result ≡ slice_index_or (answers_of log.now) k (Ok Done) }
 {
-    if k < answers.len() {
-        answers[k]
-    } else {
-        Ok(Outcome::Done)
-    }
+    log.steps
+        .get(k)
+        .map_or(Ok(Outcome::Done), |step| step.answer)
 }
 
-// The report after k calls. There is one, so that the last branch is never taken.
-fn report_after(reports: &[Report], k: usize) -> Report
-    ensures { result ≡ report_at reports.now k }
+// The report after k calls. There is one, so that the default is never taken.
+fn report_after(log: &Log, k: usize) -> Report
+    ensures { result ≡ report_at (reports_of log.now) k }
 {
-    if k < reports.len() {
-        reports[k]
-    } else {
-        Report {
-            reading: 0,
-            level: 0,
-            taken: 0,
-            carried: 0,
-            declined: 0,
-        }
+    if k == 0 {
+        return log.start;
     }
+    log.steps
+        .get(k - 1)
+        .map_or(Report::default(), |step| step.report)
 }
 
 // A node line: what became of the making.
@@ -93,16 +87,16 @@ fn put_working(
     log: &Log,
 ) -> Result<Stage, AllocError>
     requires { k + 1 < 2 ^ 64 }
-    ensures { IfOk result (λ next. (out.new.items ≡ out.old.items ++ while_working log.now.answers.items log.now.reports.items t k verb) × (next ≡ on_from_working t k verb)) }
+    ensures { IfOk result (λ next. (out.new.items ≡ out.old.items ++ while_working (answers_of log.now) (reports_of log.now) t k verb) × (next ≡ on_from_working t k verb)) }
 {
     match verb {
         Verb::Node => out.push(b'?')?,
         Verb::Calling(_) => {
-            put_answer(out, t, answer_at(&log.answers, k))?;
+            put_answer(out, t, answer_at(log, k))?;
             return Ok(Stage::Working(t, k + 1));
         }
-        Verb::Meter => put_decimal(out, report_after(&log.reports, k).reading)?,
-        Verb::State => put_state(out, report_after(&log.reports, k))?,
+        Verb::Meter => put_decimal(out, report_after(log, k).reading)?,
+        Verb::State => put_state(out, report_after(log, k))?,
     }
     Ok(Stage::Working(t, k))
 }
@@ -115,7 +109,7 @@ fn put_reply(
     log: &Log,
 ) -> Result<Stage, AllocError>
     requires { calls_before stage + 1 < 2 ^ 64 }
-    ensures { IfOk result (λ next. (out.new.items ≡ out.old.items ++ replied log.now.answers.items log.now.reports.items stage (option_map told line.now)) × (next ≡ onward stage (option_map told line.now))) }
+    ensures { IfOk result (λ next. (out.new.items ≡ out.old.items ++ replied (answers_of log.now) (reports_of log.now) stage (option_map told line.now)) × (next ≡ onward stage (option_map told line.now))) }
 {
     let Some(command) = line else {
         out.push(b'?')?;
@@ -137,7 +131,7 @@ pub(crate) fn answer_lines(
     lines: &[Option<Command>],
     log: &Log,
 ) -> Result<Vec<u8>, AllocError>
-    ensures { IfOk result (λ v. v.items ≡ transcript log.now.answers.items log.now.reports.items Stage.Waiting (map (option_map told) lines.now)) }
+    ensures { IfOk result (λ v. v.items ≡ transcript (answers_of log.now) (reports_of log.now) Stage.Waiting (map (option_map told) lines.now)) }
 {
     let mut out = Vec::new(heap);
     let mut stage = Stage::Waiting;

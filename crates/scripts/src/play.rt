@@ -6,6 +6,7 @@ ghost use Rattle.refusals.specs.Questions.{first_refusal};
 ghost use Rattle.tags.specs.Kinds.{Found, face_of};
 ghost use Rattle.node.specs.Asking.{making_q};
 ghost use Rattle.history.specs.Law.{Logged};
+ghost use Rattle.history.specs.Logs.{answers_of, reports_of};
 ghost use Rattle.scripts.specs.Calls.{spelled, calls_asked};
 ghost use Rattle.scripts.specs.Making.{making_of, asked, making};
 ghost use Rattle.scripts.specs.Play.{Played, PlayedAs, PlayedIn};
@@ -20,7 +21,7 @@ use history::{Log, log_calls};
 use hmac::Hmac;
 use mac::Algorithm;
 use mdxmac::{MdxMac, ShortMac};
-use node::{Call, Node};
+use node::{Call, Node, Report};
 use refusals::Refusal;
 use ripemd160::Ripemd160;
 use sha_1::Sha1;
@@ -98,7 +99,7 @@ fn run_over<H: Hash + Drop>(
     making: Making,
     calls: &[Call<'_>],
 ) -> Result<Log, AllocError>
-    ensures { IfOk result (λ l. Logged (face_of making.algorithm H.meaning) H.meaning.added making.t making.address (H.reading hash) calls.now l.answers.items l.reports.items) }
+    ensures { IfOk result (λ l. Logged (face_of making.algorithm H.meaning) H.meaning.added making.t making.address (H.reading hash) calls.now (answers_of l) (reports_of l)) }
 {
     let mut work = [0u8; 64];
     let (t, address) = (making.t, making.address);
@@ -115,13 +116,13 @@ fn run_over<H: Hash + Drop>(
 
 fn empty_log(heap: Global) -> Log {
     Log {
-        answers: Vec::new(heap),
-        reports: Vec::new(heap),
+        start: Report::default(),
+        steps: Vec::new(heap),
     }
 }
 
 fn run_as(heap: Global, making: Making, calls: &[Call<'_>]) -> Result<Log, AllocError>
-    ensures { IfOk result (λ l. Played making.algorithm making.hash making.t making.address (map spelled calls.now) l.answers.items l.reports.items) }
+    ensures { IfOk result (λ l. Played making.algorithm making.hash making.t making.address (map spelled calls.now) (answers_of l) (reports_of l)) }
 {
     match making.hash {
         HashKind::OfRipemd160 => run_over(heap, Ripemd160::new(), making, calls),
@@ -132,13 +133,9 @@ fn run_as(heap: Global, making: Making, calls: &[Call<'_>]) -> Result<Log, Alloc
 
 // Runs the calls among the lines on the node that a node line asks for. Nothing is run where there is no such algorithm
 // or hash.
-fn run_lines(
-    heap: Global,
-    command: &Command,
-    lines: &[Option<Command>],
-) -> Result<Log, AllocError>
+fn run_lines(heap: Global, command: &Command, lines: &[Option<Command>]) -> Result<Log, AllocError>
     requires { command.now.verb ≡ Verb.Node }
-    ensures { IfOk result (λ l. PlayedAs (making_of command.now.numbers.items) (calls_asked (map (option_map told) lines.now)) l.answers.items l.reports.items) }
+    ensures { IfOk result (λ l. PlayedAs (making_of command.now.numbers.items) (calls_asked (map (option_map told) lines.now)) (answers_of l) (reports_of l)) }
 {
     let Ok(making) = making_in(command) else {
         return Ok(empty_log(heap));
@@ -149,7 +146,7 @@ fn run_lines(
 
 // Runs a script. The first node line makes the node; nothing is run where there is none.
 pub(crate) fn run_script(heap: Global, lines: &[Option<Command>]) -> Result<Log, AllocError>
-    ensures { IfOk result (λ l. PlayedIn (map (option_map told) lines.now) l.answers.items l.reports.items) }
+    ensures { IfOk result (λ l. PlayedIn (map (option_map told) lines.now) (answers_of l) (reports_of l)) }
 {
     for (i, line) in lines.iter().enumerate() {
         if let Some(command) = line {

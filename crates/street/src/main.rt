@@ -5,7 +5,7 @@
 #![tactic(auto)]
 
 use anyhow::{Context, bail};
-use history::run_calls;
+use history::{Log, log_calls};
 use hmac::Hmac;
 use node::{Answer, Call, Fields, Outcome, Report};
 use sha256::Sha256;
@@ -28,8 +28,13 @@ const SECOND_LAMP: u16 = 12;
 
 const EVERYBODY: u16 = 65535;
 
+// The kinds of commands.
+const LEVEL: u8 = 0;
+
+const SHEET: u8 = 1;
+
 // A call, with the words that it is told in.
-type Step<'a> = (&'a str, Call<'a>);
+type ToldCall<'a> = (&'a str, Call<'a>);
 
 fn install<'a>() -> Call<'a> {
     Call::Install {
@@ -64,55 +69,29 @@ fn take<'a>(frame: &'a [u8]) -> Call<'a> {
     Call::Take { frame }
 }
 
-fn level_order(number: u32, level: u8) -> Fields {
+fn order(number: u32, kind: u8, level: u8, size: u16) -> Fields {
     Fields {
-        slot: 2,
+        slot: SLOT as u8,
         number,
-        kind: 0,
+        kind,
         level,
-        place: 8,
-        size: 1,
-    }
-}
-
-fn sheet_order(number: u32, size: u16) -> Fields {
-    Fields {
-        slot: 2,
-        number,
-        kind: 1,
-        level: 0,
         place: 8,
         size,
     }
 }
 
 // A list of calls on a new node, each told with its answer.
-fn run(
-    rt: &HostRuntime,
-    name: &str,
-    address: u16,
-    steps: &[Step<'_>],
-) -> anyhow::Result<Vec<Answer>> {
-    let mut work = [0; 64];
+fn run(rt: &HostRuntime, name: &str, address: u16, told: &[ToldCall<'_>]) -> anyhow::Result<Log> {
     let heap = rt.alloc();
-    let mut calls = Vec::new(heap);
-    for step in steps {
-        calls.push(step.1)?;
-    }
+    let calls: Vec<Call<'_>> = told.iter().map(|(_, call)| *call).collect(heap)?;
     println!(rt; "{name}, address {address}")?;
-    let (report, answers) = run_calls::<Sha256, Hmac>(
-        heap,
-        Sha256::new(),
-        TAG,
-        address,
-        &calls,
-        &mut work,
-    )?;
-    for (step, answer) in steps.iter().zip(answers.iter()) {
-        println!(rt; "  {}: {}", step.0, Told(answer))?;
+    let mut work = [0; 64];
+    let log = log_calls::<Sha256, Hmac>(heap, Sha256::new(), TAG, address, &calls, &mut work)?;
+    for ((what, _), step) in told.iter().zip(log.steps.iter()) {
+        println!(rt; "  {what}: {}", Told(&step.answer))?;
     }
-    println!(rt; "  {}\n", Standing(&report))?;
-    Ok(answers)
+    println!(rt; "  {}\n", Standing(&log.last()))?;
+    Ok(log)
 }
 
 // An answer, in words.
@@ -154,124 +133,139 @@ impl<'a> fmt::Display for Standing<'a> {
 }
 
 // The frame that a call wrote.
-fn frame_at(heap: Global, answers: &[Answer], i: usize) -> anyhow::Result<Vec<u8>> {
-    let answer = answers.get(i).context("no such answer")?;
-    let Ok(Outcome::Frame(frame)) = answer else {
+fn frame_at(heap: Global, log: &Log, i: usize) -> anyhow::Result<Vec<u8>> {
+    let step = log.steps.get(i).context("no such answer")?;
+    let Ok(Outcome::Frame(frame)) = &step.answer else {
         bail!("no frame");
     };
     Ok(frame.bytes().to_vec(heap)?)
 }
 
-fn cabinet(rt: &HostRuntime) -> anyhow::Result<Vec<Answer>> {
-    let steps = [
+fn cabinet(rt: &HostRuntime) -> anyhow::Result<Log> {
+    let calls = [
         ("installs the street's key in slot 2", install()),
         (
             "seals level 40 for lamp 11",
-            seal(SLOT, 0, &[40], FIRST_LAMP),
+            seal(SLOT, LEVEL, &[40], FIRST_LAMP),
         ),
         (
             "seals a sheet for everybody",
-            seal(SLOT, 1, b"fog until nine", EVERYBODY),
+            seal(SLOT, SHEET, b"fog until nine", EVERYBODY),
         ),
         (
             "seals level 70 for lamp 12",
-            seal(SLOT, 0, &[70], SECOND_LAMP),
+            seal(SLOT, LEVEL, &[70], SECOND_LAMP),
         ),
         (
             "seals level 101, which is too high",
-            seal(SLOT, 0, &[101], SECOND_LAMP),
+            seal(SLOT, LEVEL, &[101], SECOND_LAMP),
         ),
         (
             "seals with slot 3, which has no key",
-            seal(3, 0, &[0], SECOND_LAMP),
+            seal(3, LEVEL, &[0], SECOND_LAMP),
         ),
     ];
-    run(rt, "The cabinet", CABINET, &steps)
+    run(rt, "The cabinet", CABINET, &calls)
 }
 
-// Four frames come in pieces, each in a lane of its own and all at once.
-fn first_lamp<'a>(
-    rt: &HostRuntime,
-    level: &'a [u8],
-    sheet: &'a [u8],
-    damaged: &'a [u8],
-    other: &'a [u8],
-) -> anyhow::Result<Vec<Answer>> {
-    if level.len() < 9 || sheet.len() < 22 || damaged.len() < 22 || other.len() < 9 {
-        bail!("a short frame");
-    }
-    let steps = [
+// Four frames come in pieces, each in a lane of its own and all at once. Of each this is what its tag signs.
+fn hears<'a>(
+    level: &'a [u8; 9],
+    sheet: &'a [u8; 22],
+    damaged: &'a [u8; 22],
+    other: &'a [u8; 9],
+) -> [ToldCall<'a>; 12] {
+    [
         ("installs the street's key in slot 2", install()),
         ("opens lane 0", open(0)),
         ("opens lane 1", open(1)),
         ("opens lane 2", open(2)),
         ("opens lane 3", open(3)),
-        (
-            "hears 3 bytes of the level in lane 0",
-            hear(0, &level[0..3]),
-        ),
+        ("hears 3 bytes of the level in lane 0", hear(0, &level[..3])),
         (
             "hears 11 bytes of the sheet in lane 1",
-            hear(1, &sheet[0..11]),
+            hear(1, &sheet[..11]),
         ),
         (
             "hears 1 byte of a damaged sheet in lane 2",
-            hear(2, &damaged[0..1]),
+            hear(2, &damaged[..1]),
         ),
         (
             "hears the rest of the level in lane 0",
-            hear(0, &level[3..9]),
+            hear(0, &level[3..]),
         ),
-        (
-            "hears the other lamp's level in lane 3",
-            hear(3, &other[0..9]),
-        ),
+        ("hears the other lamp's level in lane 3", hear(3, other)),
         (
             "hears the rest of the damaged sheet in lane 2",
-            hear(2, &damaged[1..22]),
+            hear(2, &damaged[1..]),
         ),
         (
             "hears the rest of the sheet in lane 1",
-            hear(1, &sheet[11..22]),
+            hear(1, &sheet[11..]),
         ),
-        ("judges lane 0", judge(0, &level[9..])),
-        ("judges lane 1", judge(1, &sheet[22..])),
-        ("judges lane 2", judge(2, &damaged[22..])),
+    ]
+}
+
+// The tags of the first three.
+fn judges<'a>(level: &'a [u8], sheet: &'a [u8], damaged: &'a [u8]) -> [ToldCall<'a>; 4] {
+    [
+        ("judges lane 0", judge(0, level)),
+        ("judges lane 1", judge(1, sheet)),
+        ("judges lane 2", judge(2, damaged)),
         ("drops lane 3", Call::Drop { lane: 3 }),
+    ]
+}
+
+// The whole frames.
+fn takes<'a>(
+    level: &'a [u8],
+    sheet: &'a [u8],
+    damaged: &'a [u8],
+    other: &'a [u8],
+) -> [ToldCall<'a>; 9] {
+    let level_order = order(1, LEVEL, 40, 1);
+    let sheet_order = order(2, SHEET, 0, 14);
+    [
         ("takes the level", take(level)),
         ("takes the sheet with an order still in hand", take(sheet)),
-        (
-            "carries the level",
-            Call::Carry {
-                order: level_order(1, 40),
-            },
-        ),
+        ("carries the level", Call::Carry { order: level_order }),
         ("takes the level a second time", take(level)),
         ("takes the damaged sheet", take(damaged)),
         ("takes the other lamp's level", take(other)),
         ("takes the sheet", take(sheet)),
         (
             "declines an order that is not the one in hand",
-            Call::Decline {
-                order: level_order(1, 40),
-            },
+            Call::Decline { order: level_order },
         ),
-        (
-            "declines the sheet",
-            Call::Decline {
-                order: sheet_order(2, 14),
-            },
-        ),
-    ];
-    run(rt, "The first lamp", FIRST_LAMP, &steps)
+        ("declines the sheet", Call::Decline { order: sheet_order }),
+    ]
 }
 
-fn second_lamp<'a>(
+// What a frame's tag signs, and the tag.
+fn apart<'a, const N: usize>(frame: &'a [u8]) -> anyhow::Result<(&'a [u8; N], &'a [u8])> {
+    frame.split_first_chunk::<N>().context("a short frame")
+}
+
+fn first_lamp<'a>(
     rt: &HostRuntime,
     level: &'a [u8],
+    sheet: &'a [u8],
+    damaged: &'a [u8],
     other: &'a [u8],
-) -> anyhow::Result<Vec<Answer>> {
-    let steps = [
+) -> anyhow::Result<Log> {
+    let (level_front, level_tag) = apart(level)?;
+    let (sheet_front, sheet_tag) = apart(sheet)?;
+    let (damaged_front, damaged_tag) = apart(damaged)?;
+    let (other_front, _) = apart(other)?;
+    let mut calls = Vec::new(rt.alloc());
+    calls.extend_from_slice(&hears(level_front, sheet_front, damaged_front, other_front))?;
+    calls.extend_from_slice(&judges(level_tag, sheet_tag, damaged_tag))?;
+    calls.extend_from_slice(&takes(level, sheet, damaged, other))?;
+    run(rt, "The first lamp", FIRST_LAMP, &calls)
+}
+
+fn second_lamp<'a>(rt: &HostRuntime, level: &'a [u8], other: &'a [u8]) -> anyhow::Result<Log> {
+    let calls = [
         ("takes its level without a key", take(level)),
         ("installs the street's key in slot 2", install()),
         ("takes the first lamp's level", take(other)),
@@ -279,11 +273,11 @@ fn second_lamp<'a>(
         (
             "carries the level",
             Call::Carry {
-                order: level_order(3, 70),
+                order: order(3, LEVEL, 70, 1),
             },
         ),
     ];
-    run(rt, "The second lamp", SECOND_LAMP, &steps)
+    run(rt, "The second lamp", SECOND_LAMP, &calls)
 }
 
 // The sheet with one letter of it changed on the way.
@@ -301,8 +295,8 @@ fn street(rt: &HostRuntime) -> anyhow::Result<()> {
     let other = frame_at(heap, &sealed, 3)?;
     let mut damaged = sheet.clone()?;
     damage(&mut damaged);
-    let _ = first_lamp(rt, &level, &sheet, &damaged, &other)?;
-    let _ = second_lamp(rt, &other, &level)?;
+    first_lamp(rt, &level, &sheet, &damaged, &other)?;
+    second_lamp(rt, &other, &level)?;
     Ok(())
 }
 

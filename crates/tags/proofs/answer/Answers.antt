@@ -27,7 +27,7 @@ returns g c =
     let ended = c.end.ensures.ended.tagged key message joined.1 pass.tag pass.fits in
     let none = laws.none in
     let bounded = laws.bounded n in
-    let held : f.held (0 + n) - f.held 0 ≡ f.held n = ap (λ (i : ℕ). f.held i - f.held 0) (let z : 0 + n ≡ n = omega arith in z) ∙ (let z : f.held n - f.held 0 ≡ f.held n = omega arith in z) in
+    let held : f.held (0 + n) - f.held 0 ≡ f.held n = grind arith in
     let all : c.end.new.hash ≡ after next h (f.setup + f.whole n) =
     spent next h c.expand.new.hash c.add.new.hash c.end.new.hash f.setup (f.held n) (f.whole n) bounded expanded.1 (joined.2 ∙ ap (after next c.expand.new.hash) held) ended.1 in
     let met = g.met.H.Hash in

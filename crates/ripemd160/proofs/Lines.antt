@@ -1,32 +1,25 @@
--- One step more of a row, and the words of a chain. Assumes nothing.
-use Rattle.std.proofs.Common.{◌≡◌, ℕ, zero, suc, ◌+◌, Bool, List, [], ◌∷◌, ◌++◌, length, get_or, drop, set, refl, ap, ◌∙◌, add-zero, add_assoc, add-suc, add-one, arith}
-use Rattle.ripemd160.specs.Round.{turned, steps}
+-- The steps of a row, one by one and eight by eight. Assumes nothing.
+use Rattle.std.proofs.Common.{◌≡◌, ℕ, zero, suc, ◌+◌, ◌-◌, ◌≤◌, List, refl, ap, add-zero, add_assoc, add-suc, arith}
+use Rattle.ripemd160.specs.Round.{Tables, turned, steps}
 
-pub steps_more : (right : Bool) (r k : ℕ) (xs s was is : List ℕ) (from i : ℕ) → was ≡ steps right r k xs s from i →
-    is ≡ turned right r k xs was (from + i) → is ≡ steps right r k xs s from (i + 1)
+pub steps_none : (line : Tables) (r k : ℕ) (xs s : List ℕ) (from n : ℕ) → n ≡ 0 → steps line r k xs s from n ≡ s
 unfolding steps
-steps_more right r k xs s was is from i e h = h ∙ rw (add-one, e)
+steps_none line r k xs s from zero e = refl
+steps_none line r k xs s from (suc n) e = absurd (omega arith)
+
+-- step i follows those below it
+pub steps_next : (line : Tables) (r k : ℕ) (xs s : List ℕ) (from i : ℕ) → from ≤ i →
+    steps line r k xs s from (i + 1 - from) ≡ turned line r k xs (steps line r k xs s from (i - from)) i
+unfolding steps
+steps_next line r k xs s from i h =
+    let more : i + 1 - from ≡ suc (i - from) = omega arith in
+    let at : from + (i - from) ≡ i = omega arith in
+    rw (more, at)
 
 -- m steps, and then n
-pub steps_steps : (right : Bool) (r k : ℕ) (xs s : List ℕ) (from m n : ℕ) →
-    steps right r k xs (steps right r k xs s from m) (from + m) n ≡ steps right r k xs s from (m + n)
+pub steps_steps : (line : Tables) (r k : ℕ) (xs s : List ℕ) (from m n : ℕ) →
+    steps line r k xs (steps line r k xs s from m) (from + m) n ≡ steps line r k xs s from (m + n)
 unfolding steps
-steps_steps right r k xs s from m zero = rw add-zero
-steps_steps right r k xs s from m (suc n) =
-    rw (add-suc, add_assoc from m n) (ap (λ w. turned right r k xs w (from + (m + n))) (steps_steps right r k xs s from m n))
-
--- five words written one by one over the first of a list
-pub written : (h w : List ℕ) → length h ≡ 8 → length w ≡ 5 →
-    set (set (set (set (set h 0 (get_or w 0 0)) 1 (get_or w 1 0)) 2 (get_or w 2 0)) 3 (get_or w 3 0)) 4 (get_or w 4 0) ≡ w ++ drop 5 h
-written [] w l m = absurd (omega arith)
-written (_ ∷ []) w l m = absurd (omega arith)
-written (_ ∷ _ ∷ []) w l m = absurd (omega arith)
-written (_ ∷ _ ∷ _ ∷ []) w l m = absurd (omega arith)
-written (_ ∷ _ ∷ _ ∷ _ ∷ []) w l m = absurd (omega arith)
-written (_ ∷ _ ∷ _ ∷ _ ∷ _ ∷ t) [] l m = absurd (omega arith)
-written (_ ∷ _ ∷ _ ∷ _ ∷ _ ∷ t) (a ∷ []) l m = absurd (omega arith)
-written (_ ∷ _ ∷ _ ∷ _ ∷ _ ∷ t) (a ∷ b ∷ []) l m = absurd (omega arith)
-written (_ ∷ _ ∷ _ ∷ _ ∷ _ ∷ t) (a ∷ b ∷ c ∷ []) l m = absurd (omega arith)
-written (_ ∷ _ ∷ _ ∷ _ ∷ _ ∷ t) (a ∷ b ∷ c ∷ d ∷ []) l m = absurd (omega arith)
-written (_ ∷ _ ∷ _ ∷ _ ∷ _ ∷ t) (a ∷ b ∷ c ∷ d ∷ e ∷ []) l m = refl
-written (_ ∷ _ ∷ _ ∷ _ ∷ _ ∷ t) (a ∷ b ∷ c ∷ d ∷ e ∷ _ ∷ _) l m = absurd (omega arith)
+steps_steps line r k xs s from m zero = rw add-zero
+steps_steps line r k xs s from m (suc n) =
+    rw (add-suc, add_assoc from m n) (ap (λ w. turned line r k xs w (from + (m + n))) (steps_steps line r k xs s from m n))

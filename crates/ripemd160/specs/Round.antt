@@ -1,11 +1,11 @@
 -- The round of RIPEMD-160, as ISO/IEC 10118-3 has it: two lines of eighty steps on the same block, joined with the old chain.
 -- Words of MDx-MAC may be added to the constants of the steps; the plain hash adds zeros. Assumes nothing.
-use Rattle.std.specs.Prelude.{ℕ, zero, suc, ◌+◌, ◌*◌, ◌%◌, Bool, true, false, List, [], ◌∷◌, bit_and, bit_or, bit_xor, slice_index, slice_index_or}
+use Rattle.std.specs.Prelude.{ℕ, zero, suc, ◌+◌, ◌%◌, List, [], ◌∷◌, bit_and, bit_or, bit_xor, slice_index, slice_index_or}
 use Rattle.hash.specs.Words.{plus, negated, rotl, words}
 use Rattle.hash.specs.declared.ByteOrder.TheVariants.{LowFirst}
-use Rattle.ripemd160.specs.Orders.{order, shift}
-use Rattle.ripemd160.specs.declared.steps.Mixer.{Mixer}
-use Rattle.ripemd160.specs.declared.steps.Mixer.TheVariants.{Parity, Choose, Either, Select, Last}
+use Rattle.ripemd160.specs.Orders.{order_left, order_right, shift_left, shift_right, at}
+use Rattle.ripemd160.specs.declared.mixer.Mixer.{Mixer}
+use Rattle.ripemd160.specs.declared.mixer.Mixer.TheVariants.{Parity, Choose, Either, Select, Last}
 
 -- the five functions
 abbrev pub mix : Mixer → ℕ → ℕ → ℕ → ℕ
@@ -15,24 +15,38 @@ mix Either x y z = bit_xor (bit_or x (negated y)) z
 mix Select x y z = bit_or (bit_and x z) (bit_and y (negated z))
 mix Last x y z = bit_xor x (bit_or y (negated z))
 
--- the function of each row of a line: of the right line where the flag is true
-abbrev pub mixers : Bool → List Mixer
-mixers false = Parity ∷ Choose ∷ Either ∷ Select ∷ Last ∷ []
-mixers true = Last ∷ Select ∷ Either ∷ Choose ∷ Parity ∷ []
+-- what a line has of its own: for each step of its five rows the word of the block and the rotation, and for each row the
+-- function and the constant
+pub record Tables : Type 0 where
+  pub order : List (List ℕ)
+  pub shift : List (List ℕ)
+  pub mixers : List Mixer
+  pub constants : List ℕ
+  -- the added word of row 0: each later row has the next of four
+  pub first_added : ℕ
 
--- the constant of each row
-abbrev pub constants : Bool → List ℕ
-constants false = 0 ∷ 0x5a827999 ∷ 0x6ed9eba1 ∷ 0x8f1bbcdc ∷ 0xa953fd4e ∷ []
-constants true = 0x50a28be6 ∷ 0x5c4dd124 ∷ 0x6d703ef3 ∷ 0x7a6d76e9 ∷ 0 ∷ []
+-- what each line has of its own. Its added words are k0, k1, k2, k3, k0 in the left line, and k1, k2, k3, k0, k1 in the right one
+abbrev pub left : Tables
+left = record {
+  order = order_left;
+  shift = shift_left;
+  mixers = Parity ∷ Choose ∷ Either ∷ Select ∷ Last ∷ [];
+  constants = 0 ∷ 0x5a827999 ∷ 0x6ed9eba1 ∷ 0x8f1bbcdc ∷ 0xa953fd4e ∷ [];
+  first_added = 0;
+}
 
--- the added word of row r: k0, k1, k2, k3, k0 in the left line, and k1, k2, k3, k0, k1 in the right one
-abbrev pub which : Bool → ℕ → ℕ
-which false r = r % 4
-which true r = (r + 1) % 4
+abbrev pub right : Tables
+right = record {
+  order = order_right;
+  shift = shift_right;
+  mixers = Last ∷ Select ∷ Either ∷ Choose ∷ Parity ∷ [];
+  constants = 0x50a28be6 ∷ 0x5c4dd124 ∷ 0x6d703ef3 ∷ 0x7a6d76e9 ∷ 0 ∷ [];
+  first_added = 1;
+}
 
 -- the constant of row r with its added word
-abbrev pub key : Bool → List ℕ → ℕ → ℕ
-key right added r = plus (slice_index (constants right) r) (slice_index added (which right r))
+abbrev pub key : Tables → List ℕ → ℕ → ℕ
+key line added r = plus (slice_index line.constants r) (slice_index added ((line.first_added + r) % 4))
 
 -- one step on five words: its function, its word of the block, its constant and its rotation
 abbrev pub stepped : List ℕ → Mixer → ℕ → ℕ → ℕ → List ℕ
@@ -42,27 +56,22 @@ stepped s j x k n =
     slice_index s 1 ∷ rotl 10 (slice_index s 2) ∷ slice_index s 3 ∷ []
 
 -- step i of row r, with the constant k, on the words xs of a block
-abbrev pub turned : Bool → ℕ → ℕ → List ℕ → List ℕ → ℕ → List ℕ
-turned right r k xs s i =
-    stepped s (slice_index_or (mixers right) r Parity) (slice_index xs (slice_index (order right) (16 * r + i))) k (slice_index (shift right) (16 * r + i))
+abbrev pub turned : Tables → ℕ → ℕ → List ℕ → List ℕ → ℕ → List ℕ
+turned line r k xs s i = stepped s (slice_index_or line.mixers r Parity) (slice_index xs (at line.order r i)) k (at line.shift r i)
 
 -- n steps of row r, from step `from` on
-unfoldable pub steps : Bool → ℕ → ℕ → List ℕ → List ℕ → ℕ → ℕ → List ℕ
-steps right r k xs s from zero = s
-steps right r k xs s from (suc n) = turned right r k xs (steps right r k xs s from n) (from + n)
+unfoldable pub steps : Tables → ℕ → ℕ → List ℕ → List ℕ → ℕ → ℕ → List ℕ
+steps line r k xs s from zero = s
+steps line r k xs s from (suc n) = turned line r k xs (steps line r k xs s from n) (from + n)
 
 -- row r: its sixteen steps
-unfoldable pub row : Bool → List ℕ → List ℕ → List ℕ → ℕ → List ℕ
-row right added xs s r = steps right r (key right added r) xs s 0 16
+unfoldable pub row : Tables → List ℕ → List ℕ → List ℕ → ℕ → List ℕ
+row line added xs s r = steps line r (key line added r) xs s 0 16
 
 -- the first n rows of a line
-abbrev pub rows : Bool → List ℕ → List ℕ → List ℕ → ℕ → List ℕ
-rows right added xs s zero = s
-rows right added xs s (suc n) = row right added xs (rows right added xs s n) n
-
--- a line: five rows of sixteen steps
-abbrev pub line : Bool → List ℕ → List ℕ → List ℕ → List ℕ
-line right added xs s = rows right added xs s 5
+abbrev pub rows : Tables → List ℕ → List ℕ → List ℕ → ℕ → List ℕ
+rows line added xs s zero = s
+rows line added xs s (suc n) = row line added xs (rows line added xs s n) n
 
 -- the chain h with the ends of the two lines
 abbrev pub joined : List ℕ → List ℕ → List ℕ → List ℕ
@@ -73,6 +82,7 @@ joined h l r =
     plus (plus (slice_index h 4) (slice_index l 0)) (slice_index r 1) ∷
     plus (plus (slice_index h 0) (slice_index l 1)) (slice_index r 2) ∷ []
 
+-- both lines, of five rows each, from the same chain
 abbrev pub round160 : List ℕ → List ℕ → List ℕ → List ℕ
 round160 chain added block =
-    joined chain (line false added (words LowFirst block 16) chain) (line true added (words LowFirst block 16) chain)
+    joined chain (rows left added (words LowFirst block 16) chain 5) (rows right added (words LowFirst block 16) chain 5)

@@ -2,7 +2,7 @@
 // A round runs two lines of eighty steps over the same block, and joins their ends with the old chain.
 #![tactic(auto)]
 
-ghost use Rattle.std.specs.Prelude.{◌≡◌, true, [], ◌∷◌, ◌++◌, take, drop};
+ghost use Rattle.std.specs.Prelude.{◌≡◌, true, false, [], ◌∷◌};
 ghost use Rattle.hash.specs.declared.ByteOrder.TheVariants.{LowFirst};
 ghost use Rattle.hash.specs.Meaning.{step};
 ghost use Rattle.hash.specs.Meter.{shown, moved, shown_capped, shown_counts};
@@ -11,21 +11,16 @@ ghost use Rattle.ripemd160.specs.Round.{joined};
 ghost use Rattle.ripemd160.specs.Means.{meaning160};
 ghost use Rattle.std.proofs.Common.{refl, lit≤, rules};
 
-use hash::{ByteOrder, Hash, Meter, Shape, block_words, none_added};
+use hash::{ByteOrder, Hash, Meter, Shape, block_words, none_added, sum};
 pub use known::{known_codes, known_strings};
-use steps::{row, row_of, sum};
-pub use tables::order;
+pub use mixer::Mixer;
+use steps::row;
+pub use tables::{Left, Line, Right, order};
 
 mod known;
+mod mixer;
 mod steps;
 mod tables;
-
-// The five words of a chain.
-fn own_words(chain: &[u32; 8]) -> [u32; 5]
-    ensures { result ≡ take 5 chain.now }
-{
-    [chain[0], chain[1], chain[2], chain[3], chain[4]]
-}
 
 // The chain with the ends of the two lines.
 fn join(h: [u32; 5], l: [u32; 5], r: [u32; 5]) -> [u32; 5]
@@ -40,48 +35,24 @@ fn join(h: [u32; 5], l: [u32; 5], r: [u32; 5]) -> [u32; 5]
     ]
 }
 
-// Writes the five words of a chain, and leaves those past them.
-fn write_words(chain: &mut [u32; 8], words: &[u32; 5])
-    ensures { chain.new ≡ words.now ++ drop 5 chain.old }
-{
-    chain[0] = words[0];
-    chain[1] = words[1];
-    chain[2] = words[2];
-    chain[3] = words[3];
-    chain[4] = words[4];
-}
-
-// The round: both lines from the old chain, row by row, and then joined with it.
-fn keyed_round(chain: &mut [u32; 8], added: &[u32; 8], block: &[u8; 64])
+// The round: both lines from the old chain, row by row, and then joined with it. The rows stand one by one, since a const
+// parameter is no loop variable. Where no words are added, as in the plain hash, each step has a constant that is known when it is
+// compiled. Each form is a function of its own in the compiled code too: its words then stay in registers.
+#[inline(never)]
+fn round_of<const KEYED: bool>(chain: &mut [u32; 8], added: &[u32; 8], block: &[u8; 64])
+    requires plain { KEYED ≡ false → blank added.now ≡ true }
     ensures { chain.new ≡ step meaning160 chain.old added.now block.now }
 {
-    let h = own_words(chain);
+    let h: [u32; 5] = *chain.first_chunk().unwrap();
     let xs = block_words(ByteOrder::LowFirst, block);
     let mut l = h;
     let mut r = h;
-    row::<0>(&mut l, &mut r, added, &xs);
-    row::<1>(&mut l, &mut r, added, &xs);
-    row::<2>(&mut l, &mut r, added, &xs);
-    row::<3>(&mut l, &mut r, added, &xs);
-    row::<4>(&mut l, &mut r, added, &xs);
-    write_words(chain, &join(h, l, r));
-}
-
-// The same without added words, as in the plain hash: each step has a constant that is known when it is compiled.
-fn plain_round(chain: &mut [u32; 8], added: &[u32; 8], block: &[u8; 64])
-    requires { blank added.now ≡ true }
-    ensures { chain.new ≡ step meaning160 chain.old added.now block.now }
-{
-    let xs = block_words(ByteOrder::LowFirst, block);
-    let h = own_words(chain);
-    let mut l = h;
-    let mut r = h;
-    row_of::<0, false>(&mut l, &mut r, added, &xs);
-    row_of::<1, false>(&mut l, &mut r, added, &xs);
-    row_of::<2, false>(&mut l, &mut r, added, &xs);
-    row_of::<3, false>(&mut l, &mut r, added, &xs);
-    row_of::<4, false>(&mut l, &mut r, added, &xs);
-    write_words(chain, &join(h, l, r));
+    row::<0, KEYED>(&mut l, &mut r, added, &xs);
+    row::<1, KEYED>(&mut l, &mut r, added, &xs);
+    row::<2, KEYED>(&mut l, &mut r, added, &xs);
+    row::<3, KEYED>(&mut l, &mut r, added, &xs);
+    row::<4, KEYED>(&mut l, &mut r, added, &xs);
+    [chain[0], chain[1], chain[2], chain[3], chain[4]] = join(h, l, r);
 }
 
 // The round. A step with an added word takes one instruction more, so rounds with and without such words are compiled apart.
@@ -89,9 +60,9 @@ fn compress(chain: &mut [u32; 8], added: &[u32; 8], block: &[u8; 64])
     ensures { chain.new ≡ step meaning160 chain.old added.now block.now }
 {
     if none_added(added) {
-        plain_round(chain, added, block);
+        round_of::<false>(chain, added, block);
     } else {
-        keyed_round(chain, added, block);
+        round_of::<true>(chain, added, block);
     }
 }
 

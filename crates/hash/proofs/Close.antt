@@ -1,9 +1,10 @@
 -- The last block of a message with its padding, and the code of a chain, as they are written. Assumes nothing.
-use Rattle.std.proofs.Common.{◌≡◌, ℕ, zero, suc, ◌+◌, ◌-◌, ◌*◌, ◌/◌, ◌%◌, ◌^◌, ◌<◌, ◌≤◌, List, [], ◌∷◌, ◌++◌, length, get_or, take, drop, set, replicate, sym, refl, ap, ◌∙◌, append_assoc, append-nil, arith, length-append, length-drop, length-set, length-take}
+use Rattle.std.proofs.Common.{◌≡◌, ℕ, zero, suc, ◌+◌, ◌-◌, ◌*◌, ◌/◌, ◌%◌, ◌^◌, ◌<◌, ◌≤◌, List, [], ◌∷◌, ◌++◌, length, take, drop, set, replicate, map, sym, refl, ap, ◌∙◌, append_assoc, append-nil, arith, length-append, length-drop, length-set, length-take}
 use lib.Pow.{field, mod-mod-pow}
-use lib.Seq.{take-append-add}
+use lib.Seq.{take-append-add, take-nil}
 use borrow.Rule.Slice.PartMut.{put_mid}
-use Rattle.std.proofs.lemmas.List.{take_all, take_at, drop_at, drop_all, drop-drop, take_more, take_more_set, take-replicate, length-replicate, replicate-append-replicate}
+use Rattle.std.proofs.lemmas.List.{take_all, drop_at, drop_all, take_more_set, take-replicate, length-replicate, replicate-append-replicate}
+use Rattle.std.specs.List.{flat_map}
 use Rattle.hash.specs.declared.ByteOrder.{ByteOrder}
 use Rattle.hash.specs.declared.ByteOrder.TheVariants.{LowFirst, HighFirst}
 use Rattle.hash.specs.Meaning.{Meaning, step, chained, blocks, eight, four, bytes_of, closing}
@@ -18,9 +19,9 @@ marked b f at size l lt isF isSize =
     let front : take (at + 1) (set b at 128) ≡ take at b ++ 128 ∷ [] = take_more_set b at 128 (omega arith) in
     rw (none, front, isF, isSize, append-nil) (append_assoc (take at b) (128 ∷ []) (replicate (63 - at) 0))
 
-pub ended : (b w bits : List ℕ) (i n : ℕ) → length b ≡ i + n → w ≡ bits → put_mid i n b w ≡ take i b ++ bits
-ended b w bits i n l e =
-    let none : drop n (drop i b) ≡ [] = drop_all n (drop i b) (simp length-drop (omega arith)) in
+pub ended : (b w bits : List ℕ) → length b ≡ 64 → w ≡ bits → put_mid 56 8 b w ≡ take 56 b ++ bits
+ended b w bits l e =
+    let none : drop 8 (drop 56 b) ≡ [] = drop_all 8 (drop 56 b) (simp length-drop (omega arith)) in
     rw (none, e, append-nil)
 
 pub length-eight : (o : ByteOrder) (n : ℕ) → length (eight o n) ≡ 8
@@ -148,18 +149,21 @@ pub length-bytes_of : (o : ByteOrder) (xs : List ℕ) → length (bytes_of o xs)
 length-bytes_of o [] = refl
 length-bytes_of o (x ∷ xs) = simp length-append (omega (arith, length-four o x, length-bytes_of o xs))
 
-pub code_more : (o : ByteOrder) (chain b0 b w : List ℕ) (i n : ℕ) → i < length chain → b ≡ bytes_of o (take i chain) ++ drop (4 * i) b0 → w ≡ four o (get_or chain i 0) → n ≡ 4 →
-    put_mid (4 * i) n b w ≡ bytes_of o (take (i + 1) chain) ++ drop (4 * (i + 1)) b0
-code_more o chain b0 b w i n lt is_b isW isN =
-    let F = bytes_of o (take i chain) in
-    let size : length F ≡ 4 * i = length-bytes_of o (take i chain) ∙ simp length-take (omega arith) in
-    let front : take (4 * i) b ≡ F = ap (take (4 * i)) is_b ∙ take_at F (drop (4 * i) b0) (4 * i) size in
-    let back : drop (4 * i) b ≡ drop (4 * i) b0 = ap (drop (4 * i)) is_b ∙ drop_at F (drop (4 * i) b0) (4 * i) size in
-    let past : drop n (drop (4 * i) b0) ≡ drop (4 * (i + 1)) b0 = drop-drop n (4 * i) b0 ∙ ap (λ (j : ℕ). drop j b0) (omega arith) in
-    let one : bytes_of o (get_or chain i 0 ∷ []) ≡ four o (get_or chain i 0) = append-nil (four o (get_or chain i 0)) in
-    let more : bytes_of o (take (i + 1) chain) ≡ F ++ four o (get_or chain i 0) =
-    ap (bytes_of o) (take_more chain i 0 lt) ∙ bytes_of_++ o (take i chain) (get_or chain i 0 ∷ []) ∙ ap (λ (xs : List ℕ). F ++ xs) one in
-    rw (front, back, past, isW, more) (sym (append_assoc F (four o (get_or chain i 0)) (drop (4 * (i + 1)) b0)))
+four_each : (o : ByteOrder) (xs : List ℕ) → flat_map (λ (b : List ℕ). b) (map (four o) xs) ≡ bytes_of o xs
+four_each o [] = refl
+four_each o (x ∷ xs) = ap (λ (bs : List ℕ). four o x ++ bs) (four_each o xs)
+
+bytes_of-take : (o : ByteOrder) (w : ℕ) (xs : List ℕ) → take (4 * w) (bytes_of o xs) ≡ bytes_of o (take w xs)
+bytes_of-take o zero xs = let none : 4 * 0 ≡ 0 = omega arith in ap (λ (n : ℕ). take n (bytes_of o xs)) none
+bytes_of-take o (suc w) [] = take-nil (4 * suc w)
+bytes_of-take o (suc w) (x ∷ xs) =
+    let more : 4 * suc w ≡ length (four o x) + 4 * w = omega (arith, length-four o x) in
+    ap (λ (n : ℕ). take n (four o x ++ bytes_of o xs)) more ∙ take-append-add (four o x) (bytes_of o xs) (4 * w) ∙ ap (λ (bs : List ℕ). four o x ++ bs) (bytes_of-take o w xs)
+
+-- the first w words of a chain as bytes, from all of them
+pub code_front : (o : ByteOrder) (w : ℕ) (chain bytes : List ℕ) (each : List (List ℕ)) → each ≡ map (four o) chain → bytes ≡ flat_map (λ (b : List ℕ). b) each →
+    take (4 * w) bytes ≡ bytes_of o (take w chain)
+code_front o w chain bytes each is all = ap (take (4 * w)) (all ∙ ap (flat_map (λ (b : List ℕ). b)) is ∙ four_each o chain) ∙ bytes_of-take o w chain
 
 pub code_sized : (o : ByteOrder) (w : ℕ) (chain : List ℕ) → length chain ≡ 8 → w ≤ 8 → length (bytes_of o (take w chain)) ≡ 4 * w
 code_sized o w chain l few = length-bytes_of o (take w chain) ∙ simp length-take (omega arith)

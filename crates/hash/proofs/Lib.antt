@@ -1,5 +1,6 @@
 pub mod Turns
 pub mod Chain
+pub mod Made
 pub mod Load
 pub mod Message
 pub mod Gather

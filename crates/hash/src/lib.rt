@@ -2,13 +2,14 @@
 // Padding and block chaining stand here once, for all of them.
 #![tactic(auto)]
 
-ghost use Rattle.std.specs.Prelude.{◌≡◌, ℕ, ◌+◌, ◌-◌, ◌*◌, ◌/◌, ◌%◌, ◌^◌, ◌<◌, ◌≤◌, List, ◌∷◌, ◌++◌, length, take, drop, replicate, [], slice_index, slice_index_or};
+ghost use Rattle.std.specs.Prelude.{◌≡◌, ℕ, ◌+◌, ◌-◌, ◌*◌, ◌/◌, ◌%◌, ◌^◌, ◌<◌, ◌≤◌, List, ◌∷◌, ◌++◌, length, map, take, drop, replicate, [], slice_index, slice_index_or};
 ghost use Rattle.hash.specs.Meaning.{Meaning, step, chained, blocks, eight, four, code, padding, padded, hashed, none, closing};
 ghost use Rattle.hash.specs.Held.{filled, tail_after, joined, whole_blocks, rest_of, laid_over, kept_of};
 ghost use Rattle.hash.specs.Meter.{after, moved};
 ghost use Rattle.hash.specs.Words.{word_of, words, blank};
 
 pub use meter::Meter;
+use std::array;
 pub use words::{choose, majority, sum};
 
 mod meter;
@@ -18,6 +19,36 @@ mod words;
 pub enum ByteOrder {
     LowFirst,
     HighFirst,
+}
+
+impl ByteOrder {
+    fn u64_to_bytes(self, n: u64) -> [u8; 8]
+        ensures { result ≡ eight self n }
+    {
+        match self {
+            ByteOrder::LowFirst => n.to_le_bytes(),
+            ByteOrder::HighFirst => n.to_be_bytes(),
+        }
+    }
+
+    // The bytes of each word of a chain.
+    fn chain_to_bytes(self, chain: &[u32; 8]) -> [[u8; 4]; 8]
+        ensures { result ≡ map (four self) chain.now }
+    {
+        match self {
+            ByteOrder::LowFirst => chain.map(u32::to_le_bytes),
+            ByteOrder::HighFirst => chain.map(u32::to_be_bytes),
+        }
+    }
+
+    fn u32_from_bytes(self, bytes: [u8; 4]) -> u32
+        ensures { result ≡ word_of self (slice_index bytes 0) (slice_index bytes 1) (slice_index bytes 2) (slice_index bytes 3) }
+    {
+        match self {
+            ByteOrder::LowFirst => u32::from_le_bytes(bytes),
+            ByteOrder::HighFirst => u32::from_be_bytes(bytes),
+        }
+    }
 }
 
 // The numbers of a hash: w chain words, a added words, and the order of bytes in a word.
@@ -99,21 +130,13 @@ pub trait Hash {
     ghost counts: { (h : Self) → reading (next h) ≡ moved (reading h) 1 };
 }
 
-// The block that begins at the byte `at`.
-fn block_at(bytes: &[u8], at: usize) -> &[u8; 64]
-    requires { at + 64 ≤ length bytes.now }
-    ensures { result.now ≡ take 64 (drop at bytes.now) }
-{
-    <&[u8; 64]>::try_from(&bytes[at..at + 64]).unwrap()
-}
-
 // One round for each whole block of `bytes`, in their order.
 fn fold_blocks<H: Hash>(hash: &mut H, chain: &mut [u32; 8], added: &[u32; 8], bytes: &[u8])
     ensures chain { chain.new ≡ chained H.meaning chain.old added.now bytes.now (length bytes.now / 64) }
     ensures meter { hash.new ≡ after H.next hash.old (length bytes.now / 64) }
 {
-    for i in 0..bytes.len() / 64 {
-        hash.round(chain, added, block_at(bytes, 64 * i));
+    for block in bytes.as_chunks().0 {
+        hash.round(chain, added, block);
     }
 }
 
@@ -123,15 +146,6 @@ pub fn chain_blocks<H: Hash>(hash: &mut H, chain: &mut [u32; 8], added: &[u32; 8
     ensures meter { hash.new ≡ after H.next hash.old (length bytes.now / 64) }
 {
     fold_blocks(hash, chain, added, bytes);
-}
-
-fn length_bytes(order: ByteOrder, bits: u64) -> [u8; 8]
-    ensures { result ≡ eight order bits }
-{
-    match order {
-        ByteOrder::LowFirst => bits.to_le_bytes(),
-        ByteOrder::HighFirst => bits.to_be_bytes(),
-    }
 }
 
 // Copies from the piece into the held block, from the place `at` on, as much as there is room for, and gives
@@ -160,8 +174,7 @@ fn absorb_whole<H: Hash>(
     ensures meter { hash.new ≡ after H.next hash.old (length piece.now / 64) }
 {
     chain_blocks(hash, chain, added, piece);
-    let whole = piece.len() / 64 * 64;
-    fill_at(held, 0, &piece[whole..]);
+    fill_at(held, 0, piece.as_chunks::<64>().1);
 }
 
 // Joins a piece to the first `at` bytes of the held block.
@@ -208,19 +221,21 @@ pub fn absorb<H: Hash>(
 }
 
 // The byte 80 at the place `at`, and zero bytes after it.
+#[tactic(auto, using(crate::proofs::Close::marked))]
 fn mark(block: &mut [u8; 64], at: usize)
     requires { at < 64 }
     ensures { block.new ≡ take at block.old ++ 128 ∷ replicate (63 - at) 0 }
 {
     block[at] = 0x80;
-    block[at + 1..64].fill(0);
+    block[at + 1..].fill(0);
 }
 
 // Eight bytes at the end of the block.
+#[tactic(auto, using(crate::proofs::Close::ended))]
 fn write_bits(block: &mut [u8; 64], bits: &[u8; 8])
     ensures { block.new ≡ take 56 block.old ++ bits.now }
 {
-    block[56..64].copy_from_slice(bits);
+    block[56..].copy_from_slice(bits);
 }
 
 // Closes a message of `total` bytes, the first `at` bytes of the block being its last.
@@ -238,7 +253,7 @@ fn close_at<H: Hash>(
     ensures block { block.new ≡ drop (64 * (blocks at - 1)) (closing H.meaning.order block.old at total) }
     ensures meter { hash.new ≡ after H.next hash.old (blocks at) }
 {
-    let bits = length_bytes(H::shape_of().order, total.wrapping_mul(8));
+    let bits = H::shape_of().order.u64_to_bytes(total.wrapping_mul(8));
     mark(block, at);
     if at >= 56 {
         hash.round(chain, added, block);
@@ -264,26 +279,16 @@ pub fn chain_end<H: Hash>(
     close_at(hash, chain, added, block, (total % 64) as usize, total);
 }
 
-fn word_bytes(order: ByteOrder, word: u32) -> [u8; 4]
-    ensures { result ≡ four order word }
-{
-    match order {
-        ByteOrder::LowFirst => word.to_le_bytes(),
-        ByteOrder::HighFirst => word.to_be_bytes(),
-    }
-}
-
 // The code of a chain, in the first bytes of a place that has room.
 fn put_code<H: Hash>(chain: &[u32; 8], out: &mut [u8])
     requires { 32 ≤ length out.old }
     ensures bytes { out.new ≡ code H.meaning chain.now ++ drop (4 * H.meaning.words) out.old }
     ensures size { length (code H.meaning chain.now) ≡ 4 * H.meaning.words }
 {
-    let shape = H::shape_of();
-    let words = shape.words;
-    for i in 0..words {
-        out[4 * i..4 * i + 4].copy_from_slice(&word_bytes(shape.order, chain[i]));
-    }
+    let Shape { words, order, .. } = H::shape_of();
+    let code = order.chain_to_bytes(chain);
+    let size = 4 * words;
+    out[..size].copy_from_slice(&code.as_flattened()[..size]);
 }
 
 // Writes the code of a chain first into the block, and leaves the bytes past it.
@@ -315,31 +320,11 @@ pub fn hash_message<H: Hash>(hash: &mut H, message: &[u8], out: &mut [u8; 32])
     put_code::<H>(&chain, out);
 }
 
-fn word_from(order: ByteOrder, bytes: [u8; 4]) -> u32
-    ensures { result ≡ word_of order (slice_index bytes 0) (slice_index bytes 1) (slice_index bytes 2) (slice_index bytes 3) }
-{
-    match order {
-        ByteOrder::LowFirst => u32::from_le_bytes(bytes),
-        ByteOrder::HighFirst => u32::from_be_bytes(bytes),
-    }
-}
-
 fn load_words(order: ByteOrder, block: &[u8; 64]) -> [u32; 16]
     ensures { result ≡ words order block.now 16 }
 {
-    let mut xs = [0; 16];
-    for t in 0..16 {
-        xs[t] = word_from(
-            order,
-            [
-                block[4 * t],
-                block[4 * t + 1],
-                block[4 * t + 2],
-                block[4 * t + 3],
-            ],
-        );
-    }
-    xs
+    let (words, _) = block.as_chunks();
+    array::from_fn(|t| order.u32_from_bytes(words[t]))
 }
 
 // The sixteen words of a block.
@@ -349,15 +334,10 @@ pub fn block_words(order: ByteOrder, block: &[u8; 64]) -> [u32; 16]
     load_words(order, block)
 }
 
-fn no_bits(added: &[u32; 8]) -> bool
-    ensures { result ≡ blank added.now }
-{
-    added[0] | added[1] | added[2] | added[3] == 0
-}
-
-// Are the four added words zeros, as in the plain hash?
+// Are the four added words zeros, as in the plain hash? By one or of all: a pattern takes six instructions more in each round of RIPEMD-160.
+#[tactic(auto, using(crate::proofs::Sums::or_blank))]
 pub fn none_added(added: &[u32; 8]) -> bool
     ensures { result ≡ blank added.now }
 {
-    no_bits(added)
+    added[0] | added[1] | added[2] | added[3] == 0
 }

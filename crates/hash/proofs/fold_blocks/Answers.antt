@@ -1,15 +1,15 @@
-use Rattle.std.proofs.Common.{sym, refl, ap, ◌∙◌}
-use Rattle.hash.proofs.Chain.{chained_more}
-use Rattle.hash.proofs.Turns.{after_none, after_more}
+use Rattle.std.proofs.Common.{◌/◌, ◌<◌, length, ap, ◌∙◌, arith}
+use Rattle.hash.proofs.Chain.{chained_more, chunk_is}
+use Rattle.hash.proofs.Turns.{after_more}
 use Rattle.hash.proofs.fold_blocks.Goals as goal
 
-pub loop-i-init : goal.loop-i-init
-loop-i-init g c = (refl, sym (after_none g.H.Hash.next c.args.hash.now))
-
-pub loop-i-preserved : goal.loop-i-preserved
-loop-i-preserved g c =
-    let s = c.loop-i in
-    let next = g.H.Hash.next in (
-      c.round.ensures.chain ∙ chained_more g.H.Hash.meaning c.args.chain.now c.args.added.now c.args.bytes.now s.chain c.block_at.result.now s.i s.invariant.0 c.block_at.ensures,
-      c.round.ensures.meter ∙ ap next s.invariant.1 ∙ after_more next c.args.hash.now s.i,
+pub loop-block-preserved : goal.loop-block-preserved
+loop-block-preserved g c =
+    let s = c.loop-block in
+    let next = g.H.Hash.next in
+    let bytes = c.args.bytes.now in
+    let inside : s.block-index < length bytes / 64 = omega (arith, c.as_chunks.ensures.front_len, c.loop-block-test.true) in (
+      c.round.ensures.chain ∙ chained_more g.H.Hash.meaning c.args.chain.now c.args.added.now bytes s.chain _ s.block-index s.invariant.0
+          (chunk_is 64 (length bytes / 64) s.block-index bytes _ c.as_chunks.result.0.now c.as_chunks.ensures.front inside),
+      c.round.ensures.meter ∙ ap next s.invariant.1 ∙ after_more next c.args.hash.now s.block-index,
     )

@@ -1,21 +1,15 @@
-use Rattle.std.proofs.Common.{◌≡◌, sym, refl, ◌∙◌, arith}
-use Rattle.std.proofs.lemmas.List.{length-set, take_all}
-use Rattle.hash.specs.Words.{word, words}
-use Rattle.hash.proofs.Load.{words_more}
+use Rattle.std.proofs.Common.{rules, of_calls, ◌≡◌, ℕ, ◌/◌, List, [], length, get_or, refl, ap, ◌∙◌}
+use Rattle.std.specs.Simd.{first_chunks}
+use Rattle.hash.specs.Words.{word}
+use Rattle.hash.proofs.Load.{words_all, word_in}
+use Rattle.hash.proofs.Made.{made}
 use Rattle.hash.proofs.load_words.Goals as goal
-
-pub loop-t-init : goal.loop-t-init
-unfolding words
-loop-t-init c = (refl, refl)
-
-pub loop-t-preserved : goal.loop-t-preserved
-unfolding word
-loop-t-preserved c =
-    let s = c.loop-t in
-    (length-set s.xs s.t _ ∙ s.invariant.0, words_more c.args.order c.args.block.now s.xs s.t c.word_from.result (omega arith) s.invariant.1 c.word_from.ensures)
 
 pub returns : goal.returns
 returns c =
-    let s = c.loop-t in
-    let end : s.t ≡ 16 = omega arith in
-    sym (take_all 16 s.xs (omega arith)) ∙ (rw end at s.invariant.1)
+    let block : List ℕ = c.args.block.now in
+    let size : length block ≡ 64 = search rules in
+    let cut : c.as_chunks.result.0.now ≡ first_chunks 4 16 block = c.as_chunks.ensures.front ∙ ap (λ (n : ℕ). first_chunks 4 (n / 4) block) size in
+    let each = made c.from_fn.ensures.items (word c.args.order block) 0
+    (λ i r q lt k. (word_in c.args.order block (get_or c.as_chunks.result.0.now i []) [] c.as_chunks.result.0.now i r cut lt refl (search (rules, of_calls)), search (rules, of_calls))) in
+    words_all c.args.order block c.from_fn.result 16 c.from_fn.ensures.items.long each

@@ -1,25 +1,20 @@
-use Rattle.std.proofs.Common.{◌≡◌, ℕ, ◌*◌, ◌<◌, ◌++◌, length, get_or, take, drop, ap, ◌∙◌, arith, rules}
-use Rattle.hash.specs.Meaning.{four, bytes_of}
-use Rattle.hash.proofs.Close.{code_more, code_sized}
+use Rattle.std.proofs.Common.{◌≡◌, ℕ, ◌*◌, ◌++◌, List, length, take, drop, ap, ◌∙◌, ap₂, rules}
+use Rattle.hash.specs.Meaning.{bytes_of, code}
+use Rattle.hash.proofs.Close.{code_front, code_sized}
 use Rattle.hash.proofs.put_code.Goals as goal
-
-pub loop-i-preserved : goal.loop-i-preserved
-loop-i-preserved g c =
-    let m = g.H.Hash.meaning in
-    let chain = c.args.chain.now in
-    let few = g.met.H.Hash.fits in
-    let inside : c.loop-i.i < length chain = search rules in
-    code_more m.order chain c.args.out.now c.loop-i.out c.copy_from_slice.new.self c.loop-i.i _ inside c.loop-i.invariant
-    (c.copy_from_slice.ensures.after ∙ c.word_bytes.ensures ∙ ap (λ o. four o (get_or chain c.loop-i.i 0)) c.shape_of-shape.ensures.2) (omega arith)
 
 pub returns : goal.returns
 returns g c =
     let m = g.H.Hash.meaning in
-    let chain = c.args.chain.now in
-    let size : length chain ≡ 8 = search rules in
-    let few = g.met.H.Hash.fits in
-    let all : c.loop-i.i ≡ m.words = search rules in
+    let chain : List ℕ = c.args.chain.now in
+    let shape = c.shape_of-words in
+    let long : length chain ≡ 8 = search rules in
+    let size : 4 * shape.result.words ≡ 4 * m.words = ap (λ (n : ℕ). 4 * n) shape.ensures.0 in
+    let front : c.copy_from_slice.new.self ≡ code m chain =
+    c.copy_from_slice.ensures.after
+    ∙ code_front shape.result.order shape.result.words chain c.as_flattened.result.now c.chain_to_bytes-code.result c.chain_to_bytes-code.ensures c.as_flattened.ensures.value
+    ∙ ap₂ (λ o (n : ℕ). bytes_of o (take n chain)) shape.ensures.2 shape.ensures.0 in
     record {
-      bytes = c.loop-i.invariant ∙ ap (λ (i : ℕ). bytes_of m.order (take i chain) ++ drop (4 * i) c.args.out.now) all;
-      size = code_sized m.order m.words chain size few.1;
+      bytes = ap₂ (λ (bs : List ℕ) (n : ℕ). bs ++ drop n c.args.out.now) front size;
+      size = code_sized m.order m.words chain long g.met.H.Hash.fits.1;
     }

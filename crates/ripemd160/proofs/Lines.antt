@@ -2,6 +2,7 @@
 use Rattle.std.proofs.Common.{◌≡◌, ℕ, zero, suc, ◌+◌, ◌-◌, ◌≤◌, List, refl, ap, add-zero, add_assoc, add-suc, arith}
 use Rattle.ripemd160.specs.Round.{Tables, turned, steps}
 
+-- no steps
 pub steps_none : (line : Tables) (r k : ℕ) (xs s : List ℕ) (from n : ℕ) → n ≡ 0 → steps line r k xs s from n ≡ s
 unfolding steps
 steps_none line r k xs s from zero e = refl

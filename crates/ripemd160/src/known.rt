@@ -1,12 +1,13 @@
 // Answers that are known from outside, and that the definition gives when it is computed.
+#![tactic(auto, unfolding(hash::specs::Words::plus, hash::specs::Words::negated, hash::specs::Words::rotl, hash::specs::Words::word, hash::specs::Words::words, crate::specs::Round::steps, crate::specs::Round::row, crate::specs::Vectors::ruled160))]
+
 ghost use Rattle.std.specs.Prelude.{◌≡◌, [], ◌∷◌};
-ghost use Rattle.ripemd160.specs.Means.{strings160};
 ghost use Rattle.ripemd160.specs.Vectors.{hashes160, ruled160};
 
 use hash::Hash;
 
-// The codes of some messages, from outside.
-fn codes_from_outside() -> [[u8; 20]; 5]
+// The codes of "", "a", "abc", "message digest" and a text of 56 letters, known from outside: what the definition gives of each.
+pub fn known_codes() -> [[u8; 20]; 5]
     ensures { result ≡ hashes160 }
 {
     [
@@ -33,24 +34,9 @@ fn codes_from_outside() -> [[u8; 20]; 5]
     ]
 }
 
-// The codes of "", "a", "abc", "message digest" and a text of 56 letters: what the definition gives of each.
-pub fn known_codes() -> [[u8; 20]; 5]
-    ensures { result ≡ hashes160 }
-{
-    codes_from_outside()
-}
-
-// The rule of the strings, computed.
-fn rule_stands()
-    ensures first { strings160 0 ≡ ruled160 0 }
-    ensures second { strings160 1 ≡ ruled160 1 }
-    ensures third { strings160 2 ≡ ruled160 2 }
-{}
-
 // T0, T1 and T2: what the rule gives.
 pub fn known_strings() -> [[u8; 16]; 3]
     ensures { result ≡ ruled160 0 ∷ ruled160 1 ∷ ruled160 2 ∷ [] }
 {
-    rule_stands();
     <crate::Ripemd160 as Hash>::STRINGS
 }

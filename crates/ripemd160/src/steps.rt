@@ -20,17 +20,18 @@ fn one_step(s: [u32; 5], j: Mixer, x: u32, k: u32, n: u32) -> [u32; 5]
 }
 
 // The constant of row R with its added word.
+#[tactic(auto, using(hash::proofs::Sums::blank_at))]
 fn key<L: Line, const R: usize, const KEYED: bool>(added: &[u32; 8]) -> u32
     requires row { R < 5 }
     requires plain { KEYED ≡ false → blank added.now ≡ true }
     ensures { result ≡ row_key L.tables (take 4 added.now) R }
 {
-    let constant = L::CONSTANTS[R];
-    if KEYED {
-        sum(constant, added[(usize::from(L::FIRST_ADDED) + R) % 4])
+    let word = if KEYED {
+        added[(usize::from(L::FIRST_ADDED) + R) % 4]
     } else {
-        constant
-    }
+        0
+    };
+    sum(L::CONSTANTS[R], word)
 }
 
 // Step i of row R.
@@ -44,6 +45,7 @@ fn turn<L: Line, const R: usize>(s: [u32; 5], k: u32, xs: &[u32; 16], i: usize) 
 // Eight steps of row R in both lines, from step F on. They are taken in turn, so that neither line waits for the other. Eight are
 // unrolled whole, and sixteen are not; inlined, they keep the words of the lines in registers.
 #[inline(always)]
+#[tactic(auto, using(crate::proofs::Lines::steps_none, crate::proofs::Lines::steps_next))]
 fn eight<const R: usize, const F: usize>(
     l: &mut [u32; 5],
     r: &mut [u32; 5],
@@ -62,6 +64,7 @@ fn eight<const R: usize, const F: usize>(
 }
 
 // Row R of both lines.
+#[tactic(auto, using(crate::proofs::Lines::steps_steps), unfolding(crate::specs::Round::row))]
 pub(crate) fn row<const R: usize, const KEYED: bool>(
     l: &mut [u32; 5],
     r: &mut [u32; 5],

@@ -75,6 +75,7 @@ fn log_all<H: Hash + Drop, A: Algorithm<H> + Drop>(
 }
 
 // One call on a node.
+#[tactic(auto, using(crate::proofs::Goings::goes_on))]
 fn next_step<H: Hash, A: Algorithm<H>>(
     replay: &mut Replay<H, A>,
     call: &Call<'_>,

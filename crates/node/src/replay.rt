@@ -3,9 +3,8 @@
 // no way to let one lapse.
 ghost use Rattle.std.specs.Prelude.{◌≡◌, ℕ, min, List, take};
 ghost use Rattle.mac.specs.Promises.{wiped};
-ghost use Rattle.node.specs.Model.{Model};
-ghost use Rattle.node.specs.Calls.{new, guarded, finish, tag_at, seal, sealed_frame, written};
-ghost use Rattle.node.specs.Stands.{Stands, Obeys};
+ghost use Rattle.node.specs.Calls.{new, guarded, finish, tag_at, seal, sealed_frame};
+ghost use Rattle.node.specs.Stands.{Stands, Obeys, Writes};
 ghost use Rattle.node.specs.Replaying.{Performs, Narrow, report_of};
 
 use crate::Node;
@@ -120,7 +119,7 @@ fn finish_at<H: Hash, A: Algorithm<H>>(
     work: &mut [u8; 64],
 ) -> Result<(), Refusal>
     ensures obeys { Obeys H.Hash.next A.Algorithm.face node.old node.new result (λ m. guarded m (finish A.Algorithm.face m lane (min room 32))) }
-    ensures place { (m : Model) → Stands H.Hash.next A.Algorithm.face node.old m → out.new ≡ written A.Algorithm.face m result (tag_at A.Algorithm.face m lane) out.old }
+    ensures place { Writes H.Hash.next A.Algorithm.face node.old result (λ m. tag_at A.Algorithm.face m lane) out.old out.new }
 {
     node.finish(lane, &mut out[..room.min(32)], work)
 }
@@ -137,7 +136,7 @@ fn seal_at<H: Hash, A: Algorithm<H>>(
     work: &mut [u8; 64],
 ) -> Result<usize, Refusal>
     ensures obeys { Obeys H.Hash.next A.Algorithm.face node.old node.new result (λ m. guarded m (seal A.Algorithm.face m slot kind body.now (min room 295))) }
-    ensures place { (m : Model) → Stands H.Hash.next A.Algorithm.face node.old m → out.new ≡ written A.Algorithm.face m result (sealed_frame A.Algorithm.face m slot kind body.now address) out.old }
+    ensures place { Writes H.Hash.next A.Algorithm.face node.old result (λ m. sealed_frame A.Algorithm.face m slot kind body.now address) out.old out.new }
 {
     node.seal(slot, kind, body, address, &mut out[..room.min(295)], work)
 }

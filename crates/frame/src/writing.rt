@@ -40,7 +40,7 @@ fn put_front(header: Header, body: &[u8], out: &mut [u8])
 }
 
 // Writes the header for a body, and the body, at the front of `out`; the bytes past them keep their value. Slot and kind lose the bits that
-// a header has no place for. False, and nothing is written, where the body is longer than 255 bytes or `out` has no room.
+// a header has no place for. Nothing is written where the body is longer than 255 bytes, the refusal 14, or `out` has no room, 6.
 pub fn write_front(
     slot: u8,
     kind: u8,

@@ -13,7 +13,7 @@ ghost use Rattle.hash.proofs.Close.{chained_sized};
 ghost use Rattle.mac.proofs.Codes.{tag_sized};
 
 use hash::{Hash, chain_end, write_code};
-use mac::{KeyRecord, Row, Run, Span, Streamed, blank_record};
+use mac::{KeyRecord, Row, Run, Span, Streamed, Streaming, blank_record};
 
 // The lengths of keys, in bytes.
 const KEYS: Span = Span {
@@ -82,10 +82,13 @@ fn close_run<H: Hash>(hash: &mut H, run: &mut Run, block: &mut [u8; 64])
     write_code::<H>(&run.second, block);
 }
 
-#[derive(Drop)]
-pub struct Hmac;
+pub type Hmac = Streaming<HmacSteps>;
 
-impl<H: Hash> Streamed<H> for Hmac {
+// The steps in which HMAC differs from other algorithms.
+#[derive(Drop)]
+pub struct HmacSteps;
+
+impl<H: Hash> Streamed<H> for HmacSteps {
     ghost face = { hmac_face H.Hash.meaning };
 
     ghost laws = { let m = H.Hash.meaning in laws_of m (hmac_plan m) };

@@ -12,6 +12,7 @@ ghost use Rattle.mac.specs.Stream.{Streams, Fed, added_of};
 
 use hash::{Hash, absorb};
 use refusals::Refusal;
+use std::marker::PhantomData;
 
 // Lengths from the least to the most. It is Copy, which std's RangeInclusive is not.
 #[derive(Clone, Copy)]
@@ -185,7 +186,13 @@ pub trait Streamed<H: Hash> {
     ghost sized: { (k b : List ℕ) (t : ℕ) → within face.row.tag t ≡ true → length (face.tag k b t) ≡ t };
 }
 
-impl<H: Hash, S: Streamed<H>> Algorithm<H> for S {
+// The algorithm of such runs. It is a type of its own, so that any other type may implement `Algorithm` in another way.
+#[derive(Drop)]
+pub struct Streaming<S> {
+    steps: PhantomData<S>,
+}
+
+impl<H: Hash, S: Streamed<H>> Algorithm<H> for Streaming<S> {
     ghost face = { S.Streamed.face };
 
     ghost laws = { S.Streamed.laws };

@@ -15,7 +15,7 @@ ghost use Rattle.mdxmac.specs.Mixing.{mixed_sized};
 use crate::keys::key_record;
 use crate::lay::{lay_last, lay_short};
 use hash::{Hash, chain_end, write_code};
-use mac::{KeyRecord, Row, Run, Span, Streamed};
+use mac::{KeyRecord, Row, Run, Span, Streamed, Streaming};
 
 mod keys;
 mod lay;
@@ -49,10 +49,13 @@ fn close_short<H: Hash>(hash: &mut H, run: &mut Run, block: &mut [u8; 64])
     write_code::<H>(&run.chain, block);
 }
 
-#[derive(Drop)]
-pub struct MdxMac;
+pub type MdxMac = Streaming<MdxMacSteps>;
 
-impl<H: Hash> Streamed<H> for MdxMac {
+// The steps in which MDx-MAC differs from other algorithms.
+#[derive(Drop)]
+pub struct MdxMacSteps;
+
+impl<H: Hash> Streamed<H> for MdxMacSteps {
     ghost face = { mdx_face H.Hash.meaning };
 
     ghost laws = { let m = H.Hash.meaning in laws_of m (mdx_plan m) };
@@ -85,10 +88,13 @@ impl<H: Hash> Streamed<H> for MdxMac {
     }
 }
 
-#[derive(Drop)]
-pub struct ShortMac;
+pub type ShortMac = Streaming<ShortMacSteps>;
 
-impl<H: Hash> Streamed<H> for ShortMac {
+// The same for short strings.
+#[derive(Drop)]
+pub struct ShortMacSteps;
+
+impl<H: Hash> Streamed<H> for ShortMacSteps {
     ghost face = { short_face H.Hash.meaning };
 
     ghost laws = { let m = H.Hash.meaning in laws_of m (short_plan m) };

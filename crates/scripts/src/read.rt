@@ -29,7 +29,6 @@ impl From<AllocError> for Unread {
     }
 }
 
-
 // A number up to a limit.
 fn limited_number(text: &[u8], most: u64) -> Option<u64>
     ensures { result ≡ limited most (number_of text.now) }

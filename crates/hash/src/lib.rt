@@ -2,7 +2,7 @@
 // Padding and block chaining stand here once, for all of them.
 #![tactic(auto)]
 
-ghost use Rattle.std.specs.Prelude.{◌≡◌, ℕ, ◌+◌, ◌-◌, ◌*◌, ◌/◌, ◌%◌, ◌^◌, ◌<◌, ◌≤◌, List, ◌∷◌, ◌++◌, length, map, take, drop, replicate, [], slice_index, slice_index_or};
+ghost use Rattle.std.specs.Prelude.{◌≡◌, ℕ, ◌+◌, ◌-◌, ◌*◌, ◌/◌, ◌%◌, ◌^◌, ◌<◌, ◌≤◌, List, ◌∷◌, ◌++◌, length, map, take, drop, replicate, [], slice_index};
 ghost use Rattle.hash.specs.Meaning.{Meaning, step, chained, blocks, eight, four, code, padding, padded, hashed, none, closing};
 ghost use Rattle.hash.specs.Held.{filled, tail_after, joined, whole_blocks, rest_of, laid_over, kept_of};
 ghost use Rattle.hash.specs.Meter.{after, moved};
@@ -61,8 +61,6 @@ pub struct Shape {
 }
 
 pub trait Hash {
-    ghost use Rattle.hash.specs.declared.Shape.{Shape};
-
     ghost meaning: { Meaning };
 
     // what the meter reads
@@ -73,34 +71,21 @@ pub trait Hash {
 
     const SHAPE: Shape;
 
-    ghost SHAPE: { Shape };
-
     const FIRST: [u32; 8];
-
-    ghost FIRST: { List ℕ };
 
     const STRINGS: [[u8; 16]; 3];
 
-    ghost STRINGS: { List (List ℕ) };
-
+    // The constants, tied to the meaning. Each hash gives these three itself: a body that stood here would owe a law on the constants, and
+    // with it every type that implements `Hash`.
     fn shape_of() -> Shape
-        ensures { (result.words ≡ meaning.words) × (result.added ≡ meaning.added) × (result.order ≡ meaning.order) }
-    {
-        Self::SHAPE
-    }
+        ensures { (result.words ≡ meaning.words) × (result.added ≡ meaning.added) × (result.order ≡ meaning.order) };
 
     fn first_chain() -> [u32; 8]
-        ensures { result ≡ meaning.first }
-    {
-        Self::FIRST
-    }
+        ensures { result ≡ meaning.first };
 
     // T0, T1 or T2.
     fn string(i: usize) -> [u8; 16]
-        ensures { result ≡ meaning.strings (i % 3) }
-    {
-        Self::STRINGS[i % 3]
-    }
+        ensures { result ≡ meaning.strings (i % 3) };
 
     fn meter(&self) -> u64
         ensures { result ≡ reading self.now };
@@ -109,9 +94,6 @@ pub trait Hash {
     fn round(&mut self, chain: &mut [u32; 8], added: &[u32; 8], block: &[u8; 64])
         ensures chain { chain.new ≡ step meaning chain.old added.now block.now }
         ensures meter { self.new ≡ next self.old };
-
-    // the constants are those of the meaning
-    ghost constants: { (SHAPE.words ≡ meaning.words) × (SHAPE.added ≡ meaning.added) × (SHAPE.order ≡ meaning.order) × (FIRST ≡ meaning.first) × ((i : ℕ) → i < 3 → slice_index_or STRINGS i [] ≡ meaning.strings i) };
 
     ghost fits: { (4 ≤ meaning.words) × (meaning.words ≤ 8) × (meaning.added % 4 ≡ 0) × (meaning.added ≤ meaning.words) };
 

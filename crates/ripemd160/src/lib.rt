@@ -3,13 +3,12 @@
 #![tactic(auto)]
 
 ghost use Rattle.std.specs.Prelude.{◌≡◌, true, false, [], ◌∷◌};
-ghost use Rattle.hash.specs.declared.ByteOrder.TheVariants.{LowFirst};
 ghost use Rattle.hash.specs.Meaning.{step};
 ghost use Rattle.hash.specs.Meter.{shown, moved, shown_capped, shown_counts};
 ghost use Rattle.hash.specs.Words.{blank};
 ghost use Rattle.ripemd160.specs.Round.{joined};
 ghost use Rattle.ripemd160.specs.Means.{meaning160};
-ghost use Rattle.std.proofs.Common.{refl, lit≤, rules};
+ghost use Rattle.std.proofs.Common.{rules};
 
 use hash::{ByteOrder, Hash, Meter, Shape, block_words, none_added, sum};
 pub use known::{known_codes, known_strings};
@@ -110,17 +109,9 @@ impl Hash for Ripemd160 {
 
     ghost meaning = { meaning160 };
 
-    ghost SHAPE = { record { words = 5; added = 4; order = LowFirst; fits = (lit≤ tt, lit≤ tt, refl, lit≤ tt) } };
-
-    ghost FIRST = { meaning160.first };
-
-    ghost STRINGS = { meaning160.strings 0 ∷ meaning160.strings 1 ∷ meaning160.strings 2 ∷ [] };
-
     ghost reading = { λ h. shown h.meter };
 
     ghost next = { λ h. record { meter = moved h.meter 1 } };
-
-    ghost constants = { Prim.search rules };
 
     ghost fits = { Prim.search rules };
 
@@ -137,6 +128,18 @@ impl Hash for Ripemd160 {
     ghost capped = { λ h. shown_capped h.meter };
 
     ghost counts = { λ h. shown_counts h.meter };
+
+    fn shape_of() -> Shape {
+        Self::SHAPE
+    }
+
+    fn first_chain() -> [u32; 8] {
+        Self::FIRST
+    }
+
+    fn string(i: usize) -> [u8; 16] {
+        Self::STRINGS[i % 3]
+    }
 
     fn meter(&self) -> u64 {
         self.meter.reading()

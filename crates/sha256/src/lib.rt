@@ -2,14 +2,13 @@
 #![tactic(auto)]
 
 ghost use Rattle.std.specs.Prelude.{◌≡◌, ℕ, ◌%◌, [], ◌∷◌, codes};
-ghost use Rattle.hash.specs.declared.ByteOrder.TheVariants.{HighFirst};
 ghost use Rattle.hash.specs.Meaning.{hashed};
 ghost use Rattle.hash.specs.Meter.{shown, moved, shown_capped, shown_counts};
 ghost use Rattle.sha256.specs.Primes.{prime, CubeRoot};
 ghost use Rattle.sha256.specs.Round.{constant};
 ghost use Rattle.sha256.specs.Means.{meaning256};
 ghost use Rattle.sha256.specs.Groups.{round_length};
-ghost use Rattle.std.proofs.Common.{refl, lit≤, rules};
+ghost use Rattle.std.proofs.Common.{rules};
 
 use hash::{ByteOrder, Hash, Meter, Shape};
 use steps::compress;
@@ -69,17 +68,9 @@ impl Hash for Sha256 {
 
     ghost meaning = { meaning256 };
 
-    ghost SHAPE = { record { words = 8; added = 0; order = HighFirst; fits = (lit≤ tt, lit≤ tt, refl, lit≤ tt) } };
-
-    ghost FIRST = { meaning256.first };
-
-    ghost STRINGS = { meaning256.strings 0 ∷ meaning256.strings 1 ∷ meaning256.strings 2 ∷ [] };
-
     ghost reading = { λ h. shown h.meter };
 
     ghost next = { λ h. record { meter = moved h.meter 1 } };
-
-    ghost constants = { Prim.search rules };
 
     ghost fits = { Prim.search rules };
 
@@ -96,6 +87,18 @@ impl Hash for Sha256 {
     ghost capped = { λ h. shown_capped h.meter };
 
     ghost counts = { λ h. shown_counts h.meter };
+
+    fn shape_of() -> Shape {
+        Self::SHAPE
+    }
+
+    fn first_chain() -> [u32; 8] {
+        Self::FIRST
+    }
+
+    fn string(i: usize) -> [u8; 16] {
+        Self::STRINGS[i % 3]
+    }
 
     fn meter(&self) -> u64 {
         self.meter.reading()

@@ -5,9 +5,8 @@ ghost use Rattle.std.specs.Prelude.{◌≡◌, ℕ, ◌%◌, [], ◌∷◌, code
 ghost use Rattle.hash.specs.Meaning.{hashed};
 ghost use Rattle.hash.specs.Meter.{shown, moved, shown_capped, shown_counts};
 ghost use Rattle.sha_1.specs.Means.{meaning1, strings1, block_of_string, string_of};
-ghost use Rattle.hash.specs.declared.ByteOrder.TheVariants.{HighFirst};
 ghost use Rattle.sha_1.specs.Groups.{round_length};
-ghost use Rattle.std.proofs.Common.{refl, lit≤, rules};
+ghost use Rattle.std.proofs.Common.{rules};
 
 use hash::{ByteOrder, Hash, Meter, Shape};
 use steps::compress;
@@ -76,17 +75,9 @@ impl Hash for Sha1 {
 
     ghost meaning = { meaning1 };
 
-    ghost SHAPE = { record { words = 5; added = 4; order = HighFirst; fits = (lit≤ tt, lit≤ tt, refl, lit≤ tt) } };
-
-    ghost FIRST = { meaning1.first };
-
-    ghost STRINGS = { meaning1.strings 0 ∷ meaning1.strings 1 ∷ meaning1.strings 2 ∷ [] };
-
     ghost reading = { λ h. shown h.meter };
 
     ghost next = { λ h. record { meter = moved h.meter 1 } };
-
-    ghost constants = { Prim.search rules };
 
     ghost fits = { Prim.search rules };
 
@@ -103,6 +94,18 @@ impl Hash for Sha1 {
     ghost capped = { λ h. shown_capped h.meter };
 
     ghost counts = { λ h. shown_counts h.meter };
+
+    fn shape_of() -> Shape {
+        Self::SHAPE
+    }
+
+    fn first_chain() -> [u32; 8] {
+        Self::FIRST
+    }
+
+    fn string(i: usize) -> [u8; 16] {
+        Self::STRINGS[i % 3]
+    }
 
     fn meter(&self) -> u64 {
         self.meter.reading()

@@ -7,7 +7,7 @@ use Rattle.hash.specs.Meter.{after}
 use Rattle.hash.proofs.Message.{chained_append}
 use Rattle.hash.proofs.Close.{one_round, Keeps, chained_sized}
 use Rattle.hash.proofs.Join.{ends}
-use Rattle.hash.proofs.Turns.{after_more}
+use Rattle.hash.proofs.Turns.{after_one, after_more, after_after}
 use Rattle.mac.proofs.Codes.{code_first}
 use Rattle.mdxmac.specs.Mdx.{K', three, U, mixed, K0, K1, K2, last, mdx_code}
 use Rattle.mdxmac.specs.Put.{length-K', length_both}
@@ -70,6 +70,13 @@ module _ {H : Type 0} (next : H → H) (h : H) where
   -- the rounds of a message's end and of its last block
   pub end_turns : (h1 h2 : H) (p : ℕ) → h1 ≡ after next h (blocks p) → h2 ≡ next h1 → h2 ≡ after next h (blocks p + 1)
   end_turns h1 h2 p a b = b ∙ ap next a ∙ after_more next h (blocks p)
+
+  pub two_turns : (h1 h2 : H) → h1 ≡ next h → h2 ≡ next h1 → h2 ≡ after next h 2
+  two_turns h1 h2 a b = b ∙ ap next (a ∙ sym (after_one next h)) ∙ after_more next h 1
+
+  -- three times two rounds
+  pub six_turns : (h1 h2 h3 : H) → h1 ≡ after next h 2 → h2 ≡ after next h1 2 → h3 ≡ after next h2 2 → h3 ≡ after next h 6
+  six_turns h1 h2 h3 a b c = c ∙ ap (λ x. after next x 2) (b ∙ ap (λ x. after next x 2) a ∙ after_after next h 2 2) ∙ after_after next h 4 2
 
 pub mixed_sized : (m : Meaning) → Keeps m → m.words ≤ 8 → length m.first ≡ 8 → (i : ℕ) (key : List ℕ) → length (mixed m i key) ≡ 8
 unfolding mixed

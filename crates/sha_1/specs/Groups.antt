@@ -1,6 +1,7 @@
 -- How the steps of SHA-1 follow one another on a window of its schedule, and how long its chain is. Assumes nothing.
-use Rattle.std.specs.Prelude.{◌≡◌, ℕ, suc, ◌+◌, ◌<◌, ◌≤◌, List, length, slice_index, refl}
+use Rattle.std.specs.Prelude.{◌≡◌, ℕ, suc, ◌+◌, ◌<◌, ◌≤◌, List, length, take, slice_index, refl}
 use Rattle.std.proofs.Common.{◌∙◌, sym, arith}
+use Rattle.std.proofs.lemmas.List.{get_or-take}
 use Rattle.hash.specs.declared.ByteOrder.TheVariants.{HighFirst}
 use Rattle.hash.specs.Words.{words}
 use Rattle.hash.specs.Rounds.{steps}
@@ -32,6 +33,10 @@ steps_length ks s ws n = refl
 
 pub round_length : (c k b : List ℕ) → length c ≡ 5 → length (round1 c k b) ≡ 5
 round_length c k b e = sums_length c (steps (one1 (keyed k)) c (schedule b) 80) (e ∙ sym (steps_length (keyed k) c (schedule b) 79)) ∙ e
+
+-- the words past the fourth are not added
+pub keyed_take : (k : List ℕ) → keyed (take 4 k) ≡ keyed k
+keyed_take k = rw (get_or-take 4 k 0 0 (omega arith), get_or-take 4 k 1 0 (omega arith), get_or-take 4 k 2 0 (omega arith), get_or-take 4 k 3 0 (omega arith))
 
 -- with zeros added, the constants are as they stand
 pub keyed_none : (k : List ℕ) → ((i : ℕ) → slice_index k i ≡ 0) → constants ≡ keyed k

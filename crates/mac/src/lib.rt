@@ -189,7 +189,7 @@ pub trait Streamed<H: Hash> {
 // The algorithm of such runs. It is a type of its own, so that any other type may implement `Algorithm` in another way.
 #[derive(Drop)]
 pub struct Streaming<S> {
-    steps: PhantomData<S>,
+    pub steps: PhantomData<S>,
 }
 
 impl<H: Hash, S: Streamed<H>> Algorithm<H> for Streaming<S> {

@@ -75,18 +75,19 @@ module _ (f : Face) (added t own own' : ℕ) where
       let o : (l : ℕ) → open_rounds f h l ≡ open_rounds f h' l = λ l. ap (held_rounds f) (same_fed h h' al l) in
       omega (arith, same_sum h h' al k k', o 0, o 1, o 2, o 3)
 
+-- two histories alike make the meters read alike
+pub same_reading : (f : Face) (added t own own' start start' : ℕ) (h h' : List Event) (r r' : Report) → Law f added t own start h r → Law f added t own' start' h' r' → start ≡ start' → Alike h h' → r.reading ≡ r'.reading
+same_reading f added t own own' start start' h h' r r' law law' same al =
+    law.reading
+    ∙ ap (moved start) (same_cost f added t own own' h h' al law.answered law'.answered)
+    ∙ ap (λ x. moved x (cost f h')) same
+    ∙ sym law'.reading
+
 -- two lists make the meters read alike wherever they are alike
 pub together : (f : Face) (added t own own' start start' : ℕ) (calls calls' : List Call) (answers answers' : List Answer) (reports reports' : List Report) →
     Logged f added t own start calls answers reports → Logged f added t own' start' calls' answers' reports' → start ≡ start' → Together calls calls' answers answers' reports reports'
 together f added t own own' start start' calls calls' answers answers' reports reports' one two same =
     record {
-      readings = λ k le le' al. same_reading _ _ _ _ (one.law k le) (two.law k le') al;
-      ends = λ al. same_reading _ _ _ _ one.ran.law two.ran.law al;
+      readings = λ k le le' al. same_reading f added t own own' start start' _ _ _ _ (one.law k le) (two.law k le') same al;
+      ends = λ al. same_reading f added t own own' start start' _ _ _ _ one.ran.law two.ran.law same al;
     }
-  where
-    same_reading : (h h' : List Event) (r r' : Report) → Law f added t own start h r → Law f added t own' start' h' r' → Alike h h' → r.reading ≡ r'.reading
-    same_reading h h' r r' law law' al =
-        law.reading
-        ∙ ap (moved start) (same_cost f added t own own' h h' al law.answered law'.answered)
-        ∙ ap (λ x. moved x (cost f h')) same
-        ∙ sym law'.reading

@@ -15,7 +15,7 @@ use Rattle.node.specs.Stands.{Stands, in_hand}
 use Rattle.node.specs.Replies.{Answer}
 use Rattle.history.specs.declared.Step.{Step}
 use Rattle.history.specs.History.{Event, event, events, history}
-use Rattle.history.specs.Law.{Law, Logged, report_at, cost}
+use Rattle.history.specs.Law.{Law, Ran, Logged, report_at, cost}
 use Rattle.history.specs.Logs.{answers_in, reports_in}
 use Rattle.history.specs.Keeps.{Keeps, GoesOn}
 
@@ -112,21 +112,48 @@ keeps_new next f added t own first n st same =
     nothing X (suc n) zero x = refl
     nothing X (suc n) (suc i) x = nothing X n i x
 
+-- After i calls of a list, each with its answer: the node keeps its history.
+pub record Ran-so-far {H A : Type 0} (next : H → H) (f : Face) (added t own : ℕ) (first : H) (n : Node H A) (cs : List Call) (i : ℕ) (bs : List Answer) : Type 0 where
+  pub many : length bs ≡ i
+  pub keeps : Keeps next f added t own first n (history (take i cs) bs)
+
+module _ {H A : Type 0} (next : H → H) (f : Face) (added t own : ℕ) (first : H) (cs : List Call) where
+  pub ran_none : (n : Node H A) (bs : List Answer) → Stands next f n (new f added t own) → n.hash ≡ first → bs ≡ [] → Ran-so-far next f added t own first n cs 0 bs
+  ran_none n bs st same none = subst (Ran-so-far next f added t own first n cs 0) (sym none) (record { many = refl; keeps = keeps_new next f added t own first n st same })
+
+  pub ran_more : (n n' : Node H A) (i : ℕ) (d : Call) (bs bs' : List Answer) (a : Answer) → i < length cs → GoesOn next f n n' (get_or cs i d) a → bs' ≡ bs ++ a ∷ [] →
+      Ran-so-far next f added t own first n cs i bs → Ran-so-far next f added t own first n' cs (i + 1) bs'
+  ran_more n n' i d bs bs' a lt goes more so =
+      let past = history_more cs i d bs a lt (length-take-le i cs (omega (arith, lt)) ∙ sym so.many) in
+      subst (Ran-so-far next f added t own first n' cs (i + 1)) (sym more)
+      (record {
+        many = omega (arith, length-append bs (a ∷ []), so.many);
+        keeps = subst (Keeps next f added t own first n') (sym past) (goes added t own first (history (take i cs) bs) so.keeps);
+      })
+
+  pub ran_all : (reading : H → ℕ) → ((x : H) → reading x < 2 ^ 64) → ((x : H) → reading (next x) ≡ moved (reading x) 1) →
+      (n : Node H A) (i : ℕ) (bs : List Answer) (h : H) (r : Report) → length cs ≤ i → i ≤ length cs → first ≡ h → r ≡ report_of n.desk (reading n.hash) → Ran-so-far next f added t own first n cs i bs → Ran f added t own (reading h) cs bs r
+  ran_all reading low one n i bs h r le ge same is so =
+      record {
+        answered = omega (arith, so.many, le, ge);
+        law =
+            subst (λ x. Law f added t own (reading x) (history cs bs) r) same
+            (subst (λ x. Law f added t own (reading first) (history x bs) r) (take_all i cs le) (law_of next f reading low one added t own first n (history (take i cs) bs) r so.keeps is));
+      }
+
 -- After i calls of a list, each with its step: the node keeps its history, and the law holds at each point so far.
 pub record Logged-so-far {H A : Type 0} (next : H → H) (f : Face) (reading : H → ℕ) (added t own : ℕ) (first : H) (n : Node H A) (cs : List Call) (i : ℕ) (start : Report) (steps : List Step) : Type 0 where
-  pub many : length steps ≡ i
-  pub keeps : Keeps next f added t own first n (history (take i cs) (answers_in steps))
+  pub ran : Ran-so-far next f added t own first n cs i (answers_in steps)
   pub law : (k : ℕ) → k ≤ i → Law f added t own (reading first) (history (take k cs) (take k (answers_in steps))) (report_at (start ∷ reports_in steps) k)
 
 module _ {H A : Type 0} (next : H → H) (f : Face) (reading : H → ℕ) (low : (x : H) → reading x < 2 ^ 64) (one : (x : H) → reading (next x) ≡ moved (reading x) 1) (added t own : ℕ) (first : H) (cs : List Call) (start : Report) where
   pub logged_none : (n : Node H A) (steps : List Step) → Stands next f n (new f added t own) → n.hash ≡ first → start ≡ report_of n.desk (reading n.hash) → steps ≡ [] → Logged-so-far next f reading added t own first n cs 0 start steps
   logged_none n steps st same is none =
-      let k = keeps_new next f added t own first n st same in
+      let ran = ran_none next f added t own first cs n [] st same refl in
       subst (Logged-so-far next f reading added t own first n cs 0 start) (sym none)
       (record {
-        many = refl;
-        keeps = k;
-        law = points_first (Law f added t own (reading first)) cs [] (start ∷ []) start refl (law_of next f reading low one added t own first n [] start k is);
+        ran = ran;
+        law = points_first (Law f added t own (reading first)) cs [] (start ∷ []) start refl (law_of next f reading low one added t own first n [] start ran.keeps is);
       })
 
   pub logged_more : (n n' : Node H A) (i : ℕ) (d : Call) (steps steps' : List Step) (s : Step) → i < length cs → GoesOn next f n n' (get_or cs i d) s.answer → s.report ≡ report_of n'.desk (reading n'.hash) → steps' ≡ steps ++ s ∷ [] →
@@ -134,17 +161,14 @@ module _ {H A : Type 0} (next : H → H) (f : Face) (reading : H → ℕ) (low :
   logged_more n n' i d steps steps' s lt goes is more so =
       let bs = answers_in steps in
       let rs = start ∷ reports_in steps in
-      let long : length bs ≡ i = length-map steps _ ∙ so.many in
-      let past = history_more cs i d bs s.answer lt (length-take-le i cs (omega (arith, lt)) ∙ sym long) in
-      let k = subst (Keeps next f added t own first n') (sym past) (goes added t own first (history (take i cs) bs) so.keeps) in
-      let told = law_of next f reading low one added t own first n' (history (take (i + 1) cs) (bs ++ s.answer ∷ [])) s.report k is in
-      let points = points_more (Law f added t own (reading first)) cs bs s.answer rs s.report i long (omega (arith, length-map steps (λ (x : Step). x.report), so.many)) so.law told in
       let answers = map_push (λ (x : Step). x.answer) steps s in
       let reports = map_push (λ (x : Step). x.report) steps s in
+      let ran = ran_more next f added t own first cs n n' i d bs (bs ++ s.answer ∷ []) s.answer lt goes refl so.ran in
+      let told = law_of next f reading low one added t own first n' (history (take (i + 1) cs) (bs ++ s.answer ∷ [])) s.report ran.keeps is in
+      let points = points_more (Law f added t own (reading first)) cs bs s.answer rs s.report i so.ran.many (omega (arith, length-map steps (λ (x : Step). x.answer), length-map steps (λ (x : Step). x.report), so.ran.many)) so.law told in
       subst (Logged-so-far next f reading added t own first n' cs (i + 1) start) (sym more)
       (record {
-        many = omega (arith, length-append steps (s ∷ []), so.many);
-        keeps = subst (λ x. Keeps next f added t own first n' (history (take (i + 1) cs) x)) (sym answers) k;
+        ran = subst (Ran-so-far next f added t own first n' cs (i + 1)) (sym answers) ran;
         law = λ j le.
             subst (λ x. Law f added t own (reading first) (history (take j cs) (take j x)) (report_at (start ∷ reports_in (steps ++ s ∷ [])) j)) (sym answers)
             (subst (λ x. Law f added t own (reading first) (history (take j cs) (take j (bs ++ s.answer ∷ []))) (report_at (start ∷ x) j)) (sym reports) (points j le));
@@ -154,7 +178,7 @@ module _ {H A : Type 0} (next : H → H) (f : Face) (reading : H → ℕ) (low :
   logged_all n i steps h le ge same so =
       let bs = answers_in steps in
       let rs = start ∷ reports_in steps in
-      let long : length bs ≡ length cs = length-map steps _ ∙ so.many ∙ omega (arith, le, ge) in
+      let long : length bs ≡ length cs = so.ran.many ∙ omega (arith, le, ge) in
       let law : (k : ℕ) → k ≤ length cs → Law f added t own (reading h) (history (take k cs) (take k bs)) (report_at rs k) =
       λ k lt. subst (λ x. Law f added t own (reading x) (history (take k cs) (take k bs)) (report_at rs k)) same (so.law k (omega (arith, le, lt))) in
       record {
@@ -164,6 +188,6 @@ module _ {H A : Type 0} (next : H → H) (f : Face) (reading : H → ℕ) (low :
               subst (λ x. Law f added t own (reading h) (history x bs) (report_at rs (length bs))) (take_all (length bs) cs (omega (arith, long)))
               (subst (λ x. Law f added t own (reading h) (history (take (length bs) cs) x) (report_at rs (length bs))) (take_all (length bs) bs (omega arith)) (law (length bs) (omega (arith, long))));
         };
-        reported = omega (arith, length-map steps (λ (x : Step). x.report), so.many, le, ge);
+        reported = omega (arith, length-map steps (λ (x : Step). x.answer), length-map steps (λ (x : Step). x.report), long);
         law = law;
       }

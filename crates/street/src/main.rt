@@ -303,3 +303,43 @@ fn street(rt: &HostRuntime) -> anyhow::Result<()> {
 fn main(rt: HostRuntime) -> anyhow::Result<()> {
     street(&rt)
 }
+
+#[cfg(test)]
+mod tests {
+    use super::*;
+    use history::{run_both, run_calls};
+    use std::test::Fail;
+
+    // Two lamps that hear and judge as many bytes, with other bytes and other tags, spend as many rounds: two on the key, two on a tag.
+    #[test]
+    fn lamps_alike(rt: HostRuntime) -> Result<(), Fail> {
+        let heap = rt.alloc();
+        let calls = [install(), open(0), hear(0, b"fog"), judge(0, &[0; 16])];
+        let other_calls = [install(), open(0), hear(0, b"ice"), judge(0, &[1; 16])];
+        let mut work = [1; 64];
+        let (report, answers) = run_calls::<Sha256, Hmac>(
+            heap,
+            Sha256::new(),
+            TAG,
+            FIRST_LAMP,
+            &calls,
+            &mut work,
+        )?;
+        assert_eq!(rt; answers.len(), 4);
+        assert_eq!(rt; report.reading, 4);
+        let (one, other) = run_both::<Sha256, Hmac>(
+            heap,
+            Sha256::new(),
+            Sha256::new(),
+            TAG,
+            FIRST_LAMP,
+            SECOND_LAMP,
+            &calls,
+            &other_calls,
+            &mut work,
+        )?;
+        assert_eq!(rt; one.0.reading, 4);
+        assert_eq!(rt; other.0.reading, 4);
+        Ok(())
+    }
+}

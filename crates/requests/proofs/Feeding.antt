@@ -1,5 +1,5 @@
 -- A line that goes on, one that ends, and chunk after chunk. Assumes nothing.
-use Rattle.std.proofs.Common.{◌≡◌, ℕ, ◌+◌, ◌<◌, ◌≤◌, List, [], ◌∷◌, ◌++◌, length, get_or, take, sym, refl, ap, ◌∙◌, subst, append_assoc, append-nil, arith, length-take, Bor}
+use Rattle.std.proofs.Common.{◌≡◌, ℕ, ◌+◌, ◌<◌, ◌≤◌, List, [], ◌∷◌, ◌++◌, length, get_or, take, sym, refl, ap, ◌∙◌, subst, append_assoc, append-nil, arith, Bor}
 use Rattle.std.specs.List.{flat_map}
 use Rattle.std.proofs.lemmas.List.{flat_map_more, take_all, take_more}
 use Rattle.std.proofs.lemmas.List.Concat.{flat_map-append}
@@ -9,7 +9,7 @@ use Rattle.requests.specs.Reply.{reply}
 use Rattle.requests.specs.Input.{fronts, final, ended, unended, replies, last_reply}
 use Rattle.requests.specs.Stands.{Stands, Fed, Replied, Same}
 use Rattle.requests.proofs.Breaks.{pieces_some, one_broken, one_grown, pieces_append, fronts_append, final_append}
-use Rattle.requests.proofs.Held.{reply_front}
+use Rattle.requests.proofs.Held.{front_some, reply_front}
 
 -- an input that goes on
 pub replies_append : (xs ys : List ℕ) → replies (xs ++ ys) ≡ replies xs ++ replies (unended xs ++ ys)
@@ -55,7 +55,7 @@ fed_ended l l' out out' b e replied pending s =
     )
 
 -- the reply to the slice that is held is the reply to the line
-pub reply_held : (l : Lines) (pending : List ℕ) → Stands l pending → reply l.held.items ≡ reply pending
+pub reply_held : (l : Lines) (pending : List ℕ) → Stands l pending → reply (take l.len l.held) ≡ reply pending
 reply_held l pending s = ap reply s.held ∙ reply_front pending
 
 pub last_some : (pending : List ℕ) → 0 < length pending → reply pending ≡ last_reply pending
@@ -76,10 +76,10 @@ fed_same l l₁ l₂ out out₁ out₂ chunk fed same pending s =
     (same.0 ∙ told.0, subst (λ k. Stands k (unended (pending ++ chunk))) (sym same.1) told.1)
 
 -- the end of an input
-pub finish_some : (l l' : Lines) (out out' : List ℕ) → 0 < length l.held.items → Replied reply l out l' out' → Replied last_reply l out l' out'
-finish_some l l' out out' some replied pending s =
+pub finish_some : (l l' : Lines) (out out' : List ℕ) → length l.held ≡ 1025 → 0 < l.len → Replied reply l out l' out' → Replied last_reply l out l' out'
+finish_some l l' out out' long some replied pending s =
     let told = replied pending s in
-    (told.0 ∙ ap (λ o. out ++ o) (last_some pending (omega (arith, length-take 1025 pending, ap length s.held))), told.1)
+    (told.0 ∙ ap (λ o. out ++ o) (last_some pending (front_some 1025 l.len l.held pending long s.held some (omega arith))), told.1)
 
 -- chunk after chunk of an input
 pub fed_chunk : (l l₁ l₂ : Lines) (out out₁ out₂ : List ℕ) (chunks : List (Bor (List ℕ))) (i : ℕ) (d : Bor (List ℕ)) → i < length chunks → Fed l out (flat_map (λ c. c.now) (take i chunks)) l₁ out₁ → Fed l₁ out₁ (get_or chunks i d).now l₂ out₂ → Fed l out (flat_map (λ c. c.now) (take (i + 1) chunks)) l₂ out₂

@@ -8,7 +8,7 @@ use Rattle.requests.specs.Input.{unended, replies}
 -- so a line that has become too long stands for every line that begins with them
 pub record Stands (lines : Lines) (pending : List ℕ) : Type 0 where
   pub unbroken : pieces 10 pending ≡ pending ∷ []
-  pub held : lines.held.items ≡ take 1025 pending
+  pub held : take lines.len lines.held ≡ take 1025 pending
 
 -- a chunk was taken in: the lines that it ended are replied to, and the rest is pending
 abbrev pub Fed : Lines → List ℕ → List ℕ → Lines → List ℕ → Type 0

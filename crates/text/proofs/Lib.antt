@@ -1,2 +1,3 @@
 pub mod Cuts
+mod LastDigit
 mod Pairs

@@ -3,8 +3,10 @@ ghost use Rattle.std.specs.Prelude.{◌≡◌, ◌+◌, ◌^◌, ◌<◌, ◌≤
 ghost use Rattle.text.specs.Decimal.{digits_on, number_of};
 ghost use Rattle.text.specs.Room.{HasRoom};
 
-use itoa::Buffer;
 use std::alloc::AllocError;
+
+// The most digits of a number of 64 bits.
+const DIGITS: usize = 20;
 
 // The number that at most ten digits write.
 fn digits_in(text: &[u8]) -> Option<u64>
@@ -30,6 +32,31 @@ pub fn number_in(text: &[u8]) -> Option<u64>
     digits_in(text)
 }
 
+// The last digit after those before it, where there is room.
+fn put_digits(out: &mut Vec<u8>, n: u64)
+    requires { HasRoom out.old (length (decimal n)) }
+    ensures items { out.new.items ≡ out.old.items ++ decimal n }
+    ensures len { vec_len out.new ≡ vec_len out.old + length (decimal n) }
+    ensures capacity { vec_capacity out.new ≡ vec_capacity out.old }
+{
+    if n < 10 {
+        out.push_reserved(b'0' + n as u8);
+    } else {
+        put_digits(out, n / 10);
+        out.push_reserved(b'0' + (n % 10) as u8);
+    }
+}
+
+// The digits of a number, of which there are 20 at most.
+fn put_number(out: &mut Vec<u8>, n: u64)
+    requires { HasRoom out.old 20 }
+    ensures items { out.new.items ≡ out.old.items ++ decimal n }
+    ensures len { vec_len out.new ≤ vec_len out.old + 20 }
+    ensures capacity { vec_capacity out.new ≡ vec_capacity out.old }
+{
+    put_digits(out, n);
+}
+
 // The digits of a number at the end of `out`, which is as it was where memory is wanting; 20 free bytes suffice.
 pub fn put_decimal(out: &mut Vec<u8>, n: u64) -> Result<(), AllocError>
     ensures items { out.new.items ≡ (if is_ok result then out.old.items ++ decimal n else out.old.items) }
@@ -37,5 +64,7 @@ pub fn put_decimal(out: &mut Vec<u8>, n: u64) -> Result<(), AllocError>
     ensures capacity { vec_capacity out.old ≤ vec_capacity out.new }
     ensures succeeds { HasRoom out.old 20 → is_ok result ≡ true }
 {
-    out.extend_from_slice(Buffer::new().format(n).as_bytes())
+    out.reserve(DIGITS)?;
+    put_number(out, n);
+    Ok(())
 }

@@ -19,7 +19,7 @@ fn hex_value(c: u8) -> Option<u8>
 }
 
 // The byte of two hexadecimal digits.
-fn pair_value(high: u8, low: u8) -> Option<u8>
+pub fn pair_value(high: u8, low: u8) -> Option<u8>
     ensures { result ≡ pair_of high low }
 {
     Some(hex_value(high)? * 16 + hex_value(low)?)
@@ -63,12 +63,38 @@ pub fn bytes_into<'a>(text: &[u8], place: &'a mut [u8]) -> Option<&'a [u8]>
     Some(front)
 }
 
+// How many bytes are read before room is made for them.
+const BLOCK: usize = 64;
+
+// The bytes of hexadecimal pairs, on the heap. Room is made for a block of bytes once its pairs have been read, so what
+// stands after a fault asks for none.
+fn pairs_in(heap: Global, text: &[u8]) -> Result<Option<Vec<u8>>, AllocError>
+    ensures { IfOk result (λ o. option_map vec_items o ≡ pairs_of text.now) }
+{
+    if text.len() % 2 != 0 {
+        return Ok(None);
+    }
+    let mut bytes = Vec::new(heap);
+    let mut place = [0; BLOCK];
+    for pairs in text.chunks(2 * BLOCK) {
+        let front = &mut place[..pairs.len() / 2];
+        if read_pairs(pairs, front).is_none() {
+            return Ok(None);
+        }
+        bytes.extend_from_slice(front)?;
+    }
+    Ok(Some(bytes))
+}
+
 // The same bytes, on the heap.
 pub fn bytes_in(heap: Global, text: &[u8]) -> Result<Option<Vec<u8>>, AllocError>
     ensures { IfOk result (λ o. option_map vec_items o ≡ bytes_of text.now) }
 {
-    let mut bytes = vec![in heap; 0; text.len() / 2]?;
-    Ok(read_bytes(text, &mut bytes).map(|()| bytes))
+    match text {
+        [] => Ok(None),
+        [c] => Ok((*c == b'-').then_some(Vec::new(heap))),
+        _ => pairs_in(heap, text),
+    }
 }
 
 fn hex_digit(d: u8) -> u8

@@ -2,7 +2,7 @@
 #![tactic(auto)]
 
 pub use decimal::{number_in, put_decimal};
-pub use hex::{bytes_in, bytes_into, put_hex};
+pub use hex::{bytes_in, bytes_into, pair_value, put_hex};
 pub use pieces::{split, split_first};
 
 mod decimal;

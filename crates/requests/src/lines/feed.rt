@@ -8,8 +8,10 @@ ghost use Rattle.requests.specs.Stands.{Stands, Fed, FedSome, Replied, Same};
 
 use crate::answer_line;
 use crate::lines::Lines;
-use arrayvec::ArrayVec;
 use std::alloc::AllocError;
+
+// How many bytes of a line are held.
+const HELD: usize = 1025;
 
 impl Lines {
     // Nothing is pending.
@@ -17,7 +19,8 @@ impl Lines {
         ensures { Stands result [] }
     {
         Lines {
-            held: ArrayVec::new(),
+            held: [0; HELD],
+            len: 0,
         }
     }
 
@@ -41,8 +44,10 @@ impl Lines {
         requires { b ≢ 10 }
         ensures { (pending : List ℕ) → Stands self.old pending → Stands self.new (pending ++ b ∷ []) }
     {
-        if !self.held.is_full() {
-            self.held.push(b);
+        let n = self.len;
+        if n < HELD {
+            self.held[n] = b;
+            self.len = n + 1;
         }
     }
 
@@ -51,8 +56,8 @@ impl Lines {
         ensures told { MatchResult result (λ _. Replied reply self.old out.old.items self.new out.new.items) (λ _. Same self.old out.old.items self.new out.new.items) }
         ensures succeeds { HasRoom out.old 86 → is_ok result ≡ true }
     {
-        answer_line(&self.held, out)?;
-        self.held.clear();
+        answer_line(&self.held[..self.len], out)?;
+        self.len = 0;
         Ok(())
     }
 
@@ -61,7 +66,7 @@ impl Lines {
         ensures told { MatchResult result (λ _. Replied last_reply self.old out.old.items self.new out.new.items) (λ _. Same self.old out.old.items self.new out.new.items) }
         ensures succeeds { HasRoom out.old 86 → is_ok result ≡ true }
     {
-        if self.held.is_empty() {
+        if self.len == 0 {
             return Ok(());
         }
         self.end_line(out)

@@ -2,8 +2,11 @@
 // refusal; that none is, is proved.
 #![tactic(auto)]
 
-ghost use Rattle.std.specs.Prelude.{◌≡◌, nat_le};
+ghost use Rattle.std.specs.Prelude.{◌≡◌, if◌then◌else◌, nat_le};
 ghost use Rattle.mac.specs.Promises.{wiped};
+ghost use Rattle.node.specs.Calls.{guarded, carry, decline};
+ghost use Rattle.node.specs.Orders.{ended};
+ghost use Rattle.node.specs.Stands.{Obeys};
 ghost use Rattle.caller.specs.Spending.{Spends, spent};
 
 use hash::Hash;
@@ -34,11 +37,22 @@ fn spend<H: Hash, A: Algorithm<H>>(
     ensures zeroed { work.new ≡ wiped }
 {
     let order = node.take(frame, work).map_err(|e| (e, None))?;
-    if order.fields().level <= most {
-        node.carry(order).map_err(|(e, back)| (e, Some(back)))?;
-        Ok(true)
+    let low = order.fields().level <= most;
+    end_order(node, order, low).map_err(|(e, back)| (e, Some(back)))?;
+    Ok(low)
+}
+
+// Carries an order, or declines it.
+fn end_order<H: Hash, A: Algorithm<H>>(
+    node: &mut Node<H, A>,
+    order: Order,
+    carries: bool,
+) -> Result<(), (Refusal, Order)>
+    ensures { Obeys H.Hash.next A.Algorithm.face node.old node.new (ended result) (λ m. guarded m (if carries then carry A.Algorithm.face m order.fields else decline A.Algorithm.face m order.fields)) }
+{
+    if carries {
+        node.carry(order)
     } else {
-        node.decline(order).map_err(|(e, back)| (e, Some(back)))?;
-        Ok(false)
+        node.decline(order)
     }
 }
